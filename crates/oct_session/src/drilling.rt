@@ -1,5 +1,6 @@
 //! Drills: a session over a script that a number makes, and four lines about it.
-ghost use Rattle.std.specs.Prelude.{◌≡◌, ◌≤◌, ◌++◌, decimal, length, OnOk, OnErr, IfOk, IfErr};
+ghost use Rattle.std.specs.Prelude.{◌≡◌, ◌<◌, ◌≤◌, ◌+◌, ◌++◌, decimal, length, OnOk, OnErr, IfOk};
+ghost use Rattle.std.specs.Prelude.{IfErr, vec_capacity, vec_len};
 ghost use Rattle.oct_bt.specs.File.{bt_text};
 ghost use Rattle.oct_io.specs.Counts.{IsMakingCounted};
 ghost use Rattle.oct_io.specs.Taken.{IsCutOff};
@@ -48,19 +49,26 @@ fn drill_options() -> Options
     }
 }
 
-/// Appends a word and its number.
+/// Appends a word and its number. Memory runs out only where the text has no room for them.
 fn push_count(out: &mut Vec<u8>, word: &[u8], n: u64) -> Result<(), Memory>
-    ensures { OnOk result (out.new.items ≡ out.old.items ++ word.now ++ decimal n) }
+    ensures ok { OnOk result (out.new.items ≡ out.old.items ++ word.now ++ decimal n) }
+    ensures memory { OnErr result
+        (vec_capacity out.old < vec_len out.old + (length word.now + length (decimal n))) }
+    ensures len { OnOk result
+        (vec_len out.new ≡ vec_len out.old + (length word.now + length (decimal n))) }
+    ensures capacity { vec_capacity out.old ≤ vec_capacity out.new }
 {
     out.extend_from_slice(word)?;
     out.extend_from_slice(Buffer::new().format(n).as_bytes())?;
     Ok(())
 }
 
-/// Appends a line of two words, each with its number.
+/// Appends a line of two words, each with its number, as [`push_count`] does.
 fn push_line(out: &mut Vec<u8>, word: &[u8], n: u64, other: &[u8], m: u64) -> Result<(), Memory>
-    ensures { OnOk result
+    ensures ok { OnOk result
         (out.new.items ≡ out.old.items ++ line_of_two word.now n other.now m) }
+    ensures memory { OnErr result (vec_capacity out.old < vec_len out.old
+        + (length word.now + length (decimal n) + length other.now + length (decimal m) + 1)) }
 {
     push_count(out, word, n)?;
     push_count(out, other, m)?;
