@@ -203,6 +203,27 @@ class Clashes(Maps):
         self.map("--script", "new.xyz")
         self.map("--script", "new.xyz")
 
+    def test_a_forgotten_name_of_maps(self):
+        """`-o FILE *.bt` without FILE; what stands behind the maps, or isn't beside them in their
+        order, is written over."""
+        os.mkdir("out")
+        for name in ("1.bt", "2.bt", "3.bt", "b.bt", "out/1.bt", "A.snap"):
+            with Map(0.5) as world:
+                world.set([[0.2, 0.2, 0.2]], 9)
+                (world.snapshot if name.endswith("snap") else world.save)(name)
+        said = "it stands there and seems to be one of the maps (is FILE forgotten?); behind the "
+        said += "maps, the option writes over it"
+        self.refused(f"1.bt: {said}", "merge", "-o", "1.bt", "2.bt", "3.bt")
+        self.refused(f"1.bt: {said}", "merge", "--rule", "first", "--snapshot", "1.bt", "2.bt")
+        put_file("a_old.snap")
+        self.refused(f"a_old.snap: {said}", "merge", "--snapshot", "a_old.snap", "A.snap", "1.bt")
+        for words in (
+            ["2.bt", "3.bt", "-o", "1.bt"], ["-o", "b.bt", "2.bt", "3.bt"],
+            ["-o", "out/1.bt", "2.bt", "3.bt"], ["-o", "0.bt", "2.bt", "3.bt"],
+            ["--snapshot", "0.snap", "2.bt"], ["-o", "/dev/null", "2.bt"],
+        ):  # fmt: skip
+            self.done("merge", *words, "--rule", "greatest")
+
 
 class Nothing(Maps):
     """A run that has no point for the map."""

@@ -8,6 +8,7 @@ import numpy as np
 from running import InFolder, save_map
 
 from octofix import Map
+from octofix.tools.pointfiles import points_file
 
 # Keys from the origin at 0.5 m: a step, with a free voxel beside it and one above that.
 THREE = {(2, -1, 0): 3500, (4, -1, 0): -2000, (2, 1, 1): -2000}
@@ -34,6 +35,16 @@ class Points(InFolder):
         free = b"x,y,z\n1.25 0.75 0.75\n2.25 -0.25 0.25\n".replace(b" ", b",")
         came = self.points("--what", "free", "--format", "csv")
         self.assertEqual(sorted(came.split()), sorted(free.split()))
+
+    def test_text_of_any_number(self):
+        """Nine digits, less zeros at the end, of each number, whichever stand beside it."""
+        spelled = {0.0: "0", -0.0: "-0", 1e-10: "0", -4e-10: "-0", 0.1 + 0.2: "0.3", 1e6: "1000000"}
+        spelled |= {-12.5: "-12.5", 0.123456789012: "0.123456789", 2 / 3: "0.666666667"}
+        rows = np.array([[it, 1, it] for it in spelled for _ in range(2)])
+        wanted = [f"{it},1,{it}" for it in spelled.values() for _ in range(2)]
+        came = points_file("csv", "xyz", rows).decode().split("\n")
+        self.assertEqual(came, ["x,y,z", *wanted, ""])
+        self.assertEqual(points_file("xyz", "xyz", rows[:0]), b"")
 
     def test_npy(self):
         array = np.load(io.BytesIO(self.points("--what", "free", "--format", "npy")))

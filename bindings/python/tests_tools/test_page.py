@@ -1,6 +1,7 @@
 """The page of `octofix view map.bt -o map.html`, without a browser."""
 
 import base64
+import errno
 import gzip
 import json
 import os
@@ -197,6 +198,15 @@ class Open(InFolder):
                 ran = self.done("view", "a.bt", "--open")
         opened.assert_called_once_with(Path("map.html").absolute().as_uri())
         self.assertIn(f"{Path('map.html').absolute()} is shown", ran.said)
+
+    def test_a_full_disk(self):
+        """Nothing is left of a page that has no room, and of its folder."""
+        os.mkdir("rooms")
+        with mock.patch.dict(os.environ, TMPDIR="rooms"), mock.patch("tempfile.tempdir", None):
+            with mock.patch("os.write", side_effect=OSError(errno.ENOSPC, "No space left")):
+                ran = self.done("view", "a.bt", "--open", status=1)
+        self.assertRegex(ran.said, r"^octofix: .*rooms/octofix-\w+/map\.html: No space left\n$")
+        self.assertEqual(os.listdir("rooms"), [])
 
     def test_no_browser(self):
         with mock.patch(f"{VIEW}.webbrowser.open", return_value=False):

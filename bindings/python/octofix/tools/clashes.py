@@ -24,6 +24,23 @@ def refuse_clouds(outputs, clouds):
                 raise Unusable("it stands there and seems to be a cloud (is FILE forgotten?)", name)
 
 
+def refuse_first(options, names):
+    """Refuses to write over a file that stands right before these in the order of their names, as
+    the first one of them does where somebody forgets FILE in `-o FILE *.bt`."""
+    first = names[0]
+    for it in options.foremost:
+        name = getattr(options, it)
+        if isinstance(name, Output) and os.path.isfile(name) and _could_begin(name, first):
+            said = "it stands there and seems to be one of the maps (is FILE forgotten?)"
+            raise Unusable(f"{said}; behind the maps, the option writes over it", name)
+
+
+def _could_begin(name, first):
+    """Whether a pattern of the shell that gives the one name could give the other one before it."""
+    is_beside = os.path.dirname(name) == os.path.dirname(first) and _ending(name) == _ending(first)
+    return is_beside and (name < first or name.casefold() < first.casefold())
+
+
 def _ending(name):
     return re.sub(r"\.gz$", "", name.lower()).rpartition(".")[2]
 

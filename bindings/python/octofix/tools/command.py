@@ -24,11 +24,16 @@ by Ctrl-C, SIGTERM or SIGHUP; 141 nobody reads the output any more"""
 
 
 class LastOne(argparse.Action):
-    """Stores a value, as argparse does, and notes in `repeated` an option that had another one."""
+    """Stores a value, as argparse does, and notes in `repeated` an option that had another one, and
+    in `foremost` those that stand before the words that no option takes."""
 
     def __call__(self, parser, namespace, values, option_string=None):
         if option_string and getattr(namespace, self.dest) is not self.default:
             namespace.repeated = [*namespace.repeated, option_string]
+        if option_string is None:
+            namespace.is_behind = True
+        elif not namespace.is_behind:
+            namespace.foremost = [*namespace.foremost, self.dest]
         setattr(namespace, self.dest, values)
 
 
@@ -48,7 +53,7 @@ def parser():
         # (else only -1 and -0.1 are numbers, and -1e-3 is an option)
         each._negative_number_matcher = re.compile(r"-\.?[0-9]")
         module.arguments(each)
-        each.set_defaults(run=module.run, repeated=[])
+        each.set_defaults(run=module.run, repeated=[], foremost=[], is_behind=False)
     return top
 
 

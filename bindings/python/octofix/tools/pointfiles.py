@@ -8,6 +8,7 @@ import numpy as np
 
 from .errors import Unusable
 from .files import written
+from .leaves import CHUNK
 
 # The fewest bytes that a number takes in each form.
 FORMS = {"ply": 4, "pcd": 4, "xyz": 2, "csv": 2, "npy": 8}
@@ -28,7 +29,8 @@ def write_points(name, form, columns, count, pieces):
     with written(name) as (file,):
         file.write(_header(form, columns, count))
         for piece in pieces:
-            file.write(_body(form, piece))
+            for low in range(0, len(piece), CHUNK):
+                file.write(_body(form, piece[low : low + CHUNK]))
 
 
 def _expect_room(name, count, size):
@@ -53,9 +55,16 @@ def _body(form, piece):
         return piece.astype("<f4").tobytes()
     if form == "npy":
         return piece.astype("<f8").tobytes()
-    blank = "," if form == "csv" else " "
-    rows = (blank.join(f"{it:.9f}".rstrip("0").rstrip(".") for it in row) for row in piece.tolist())
-    return "".join(f"{row}\n" for row in rows).encode()
+    lines = map(("," if form == "csv" else " ").join, zip(*map(_spelled, piece.T)))
+    return "".join(f"{it}\n" for it in lines).encode()
+
+
+def _spelled(column):
+    """Each number as text. A number that stands more than once, as the coordinates of voxels do, is
+    spelled once."""
+    bits, places = np.unique(np.ascontiguousarray(column, "f8").view("i8"), return_inverse=True)
+    words = [f"{it:.9f}".rstrip("0").rstrip(".") for it in bits.view("f8").tolist()]
+    return np.array(words, object)[places].tolist()
 
 
 def _header(form, columns, count):

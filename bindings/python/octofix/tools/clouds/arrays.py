@@ -10,6 +10,8 @@ from ..errors import Unusable, failing_as
 from .cloud import Cloud, only, xyz_of
 from .columns import AXES, places_of
 
+# Columns that are rather points of an array whose rows are x, y and z.
+MANY = 16
 HEADERS = {
     (1, 0): np.lib.format.read_array_header_1_0,
     (2, 0): np.lib.format.read_array_header_2_0,
@@ -24,7 +26,10 @@ def read_npy(name, content, reading):
         return only(Cloud(name, _of_records(array, reading.columns)))
     if array.ndim != 2 or array.shape[1] < 3 or array.dtype.kind not in "fiu":
         raise Unusable(f"{_shape_of(array)}, and n x 3 numbers are needed")
-    width = array.shape[1]
+    many, width = array.shape
+    if many in (3, 4) and width >= MANY and not reading.columns:
+        said = "it looks transposed, and n x 3 numbers are needed"
+        raise Unusable(f"{_shape_of(array)}: {said} (save array[:3].T)")
     if width > 3 and not reading.columns:
         said = f"{_shape_of(array)}: which columns are x, y and z isn't said"
         row = ", ".join(map(str, array[:1].ravel().tolist()))

@@ -14,6 +14,7 @@ whole, or a region is missing.
 from octofix import Refused, Rule
 
 from ..arguments import Input, Output, classes_output
+from ..clashes import refuse_first
 from ..errors import DONE, Unusable
 from ..files import WRITING, written
 from ..interrupts import INTERRUPTS
@@ -56,6 +57,7 @@ def run(options):
         raise Unusable("nothing is to be written (-o or --snapshot)")
     if names.count("-") > 1:
         raise Unusable("only one of -o and --snapshot can be the output")
+    refuse_first(options, options.maps)
     with INTERRUPTS.held(WRITING), written(*names) as opened:
         with INTERRUPTS.held(None):
             world = _joined(options)

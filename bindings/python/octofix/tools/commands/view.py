@@ -12,6 +12,7 @@ what stands there, of a snapshot with its value. It needs no network.
 """
 
 import argparse
+import contextlib
 import os
 import pathlib
 import tempfile
@@ -95,12 +96,26 @@ def _page(options):
     if options.output and not options.output.lower().endswith(PAGES):
         raise Unusable("--open shows a page (-o FILE.html, or no -o)", options.output)
     content = _page_of(options)
-    name = options.output or os.path.join(tempfile.mkdtemp(prefix="octofix-"), "map.html")
-    write(name, content)
-    if not options.output:
+    name = options.output or _write_for_the_browser(content)
+    if options.output:
+        write(name, content)
+    else:
         say(f"{name} is shown")
     if options.open and not webbrowser.open(pathlib.Path(name).absolute().as_uri()):
         raise Unusable(f"no browser could be started; open {name} in one")
+
+
+def _write_for_the_browser(content):
+    """The name of a new page, in a folder of its own, of which nothing is left where it fails."""
+    folder = tempfile.mkdtemp(prefix="octofix-")
+    name = os.path.join(folder, "map.html")
+    try:
+        write(name, content)
+    finally:
+        # (with the page in it, it stays)
+        with contextlib.suppress(OSError):
+            os.rmdir(folder)
+    return name
 
 
 def _page_of(options):
