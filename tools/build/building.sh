@@ -62,12 +62,16 @@ build() {
     [ -f "$made" ] && mv -- "$stamp.new" "$stamp"
 }
 
+expect_kit() {
+    command -v rt >/dev/null || fail 'the command rt of the kit is not on the path (see README.md)'
+}
+
 # One launcher proves at a time, and one builds without proof. One that had to wait looks again.
 ensure_built() {
     choose "$1" "$2"
     is_built && return
     check_jobs
-    command -v rt >/dev/null || fail 'the command rt of the kit is not on the path (see README.md)'
+    expect_kit
     exec 9<"$root/tools/build/$how.py" || exit 9
     flock -n 9 || { say "waiting for another octomap to build $crate" && flock 9; } || exit 9
     is_built || build || fail "$crate can't be built; the last lines of $log say why"
