@@ -55,16 +55,17 @@ def _body(form, piece):
         return piece.astype("<f4").tobytes()
     if form == "npy":
         return piece.astype("<f8").tobytes()
-    lines = map(("," if form == "csv" else " ").join, zip(*map(_spelled, piece.T)))
-    return "".join(f"{it}\n" for it in lines).encode()
+    ends = ["," if form == "csv" else " "] * (piece.shape[1] - 1) + ["\n"]
+    words = np.stack([_spelled(*it) for it in zip(piece.T, ends)], axis=1)
+    return "".join(words.ravel().tolist()).encode()
 
 
-def _spelled(column):
-    """Each number as text. A number that stands more than once, as the coordinates of voxels do, is
-    spelled once."""
+def _spelled(column, end):
+    """Each number as text with what stands behind it. Those that stand more than once, as the
+    coordinates of voxels do, are spelled once."""
     bits, places = np.unique(np.ascontiguousarray(column, "f8").view("i8"), return_inverse=True)
-    words = [f"{it:.9f}".rstrip("0").rstrip(".") for it in bits.view("f8").tolist()]
-    return np.array(words, object)[places].tolist()
+    words = [f"{it:.9f}".rstrip("0").rstrip(".") + end for it in bits.view("f8").tolist()]
+    return np.array(words, object)[places]
 
 
 def _header(form, columns, count):
