@@ -207,7 +207,7 @@ class Clashes(Maps):
         """`-o FILE *.bt` without FILE; what stands behind the maps, or isn't beside them in their
         order, is written over."""
         os.mkdir("out")
-        for name in ("1.bt", "2.bt", "3.bt", "b.bt", "out/1.bt", "A.snap"):
+        for name in ("1.bt", "2.bt", "3.bt", "b.bt", "out/1.bt", "B.snap"):
             with Map(0.5) as world:
                 world.set([[0.2, 0.2, 0.2]], 9)
                 (world.snapshot if name.endswith("snap") else world.save)(name)
@@ -216,7 +216,7 @@ class Clashes(Maps):
         self.refused(f"1.bt: {said}", "merge", "-o", "1.bt", "2.bt", "3.bt")
         self.refused(f"1.bt: {said}", "merge", "--rule", "first", "--snapshot", "1.bt", "2.bt")
         put_file("a_old.snap")
-        self.refused(f"a_old.snap: {said}", "merge", "--snapshot", "a_old.snap", "A.snap", "1.bt")
+        self.refused(f"a_old.snap: {said}", "merge", "--snapshot", "a_old.snap", "B.snap", "1.bt")
         for words in (
             ["2.bt", "3.bt", "-o", "1.bt"], ["-o", "b.bt", "2.bt", "3.bt"],
             ["-o", "out/1.bt", "2.bt", "3.bt"], ["-o", "0.bt", "2.bt", "3.bt"],

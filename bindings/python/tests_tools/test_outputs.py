@@ -38,10 +38,10 @@ class Points(InFolder):
 
     def test_text_of_any_number(self):
         """Nine digits, less zeros at the end, of each number, whichever stand beside it."""
-        spelled = {0.0: "0", -0.0: "-0", 1e-10: "0", -4e-10: "-0", 0.1 + 0.2: "0.3", 1e6: "1000000"}
-        spelled |= {-12.5: "-12.5", 0.123456789012: "0.123456789", 2 / 3: "0.666666667"}
-        rows = np.array([[it, 1, it] for it in spelled for _ in range(2)])
-        wanted = [f"{it},1,{it}" for it in spelled.values() for _ in range(2)]
+        spelled = [(0.0, "0"), (-0.0, "-0"), (1e-10, "0"), (-4e-10, "-0"), (0.1 + 0.2, "0.3")]
+        spelled += [(1e6, "1000000"), (-12.5, "-12.5"), (2 / 3, "0.666666667")] * 2
+        rows = np.array([[it, 1, it] for it, _ in spelled])
+        wanted = [f"{it},1,{it}" for _, it in spelled]
         came = points_file("csv", "xyz", rows).decode().split("\n")
         self.assertEqual(came, ["x,y,z", *wanted, ""])
         self.assertEqual(points_file("xyz", "xyz", rows[:0]), b"")

@@ -202,7 +202,7 @@ class Open(InFolder):
     def test_a_full_disk(self):
         """Nothing is left of a page that has no room, and of its folder."""
         os.mkdir("rooms")
-        with mock.patch.dict(os.environ, TMPDIR="rooms"), mock.patch("tempfile.tempdir", None):
+        with mock.patch("tempfile.tempdir", "rooms"):
             with mock.patch("os.write", side_effect=OSError(errno.ENOSPC, "No space left")):
                 ran = self.done("view", "a.bt", "--open", status=1)
         self.assertRegex(ran.said, r"^octofix: .*rooms/octofix-\w+/map\.html: No space left\n$")
