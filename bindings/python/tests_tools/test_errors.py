@@ -227,6 +227,7 @@ class Files(InFolder):
             said = "bad.bt: it can't be read as a map: refused 12 WrongId"
             self.refused(said, *words, "bad.bt")
         self.refused("none.bt: No such file or directory", "info", "none.bt")
+        self.refused("-: it is empty", "info", "-")
 
 
 class Words(InFolder):
@@ -346,6 +347,9 @@ class Words(InFolder):
             ("nothing is occupied there", "view", "empty.bt", "--oblique", "-o", "c.png"),
             ("--text shows a slice (--slice Z)", "view", "a.bt", "--text"),
             ("nothing is to be written (-o FILE, --text or --open)", "view", "a.bt"),
+            ("the name of a file is empty (is a variable of the shell unset?)", "info", ""),
+            ("the name of a file is empty (is a variable of the shell unset?)", "merge", "a.bt",
+             "-o", ""),
             ("b.bt: its resolution is 0.25 m, and that of a.bt is 0.5 m", "compare", "a.bt",
              "b.bt"),
             ("the box is to be given (--box)", "crop", "a.bt", "-o", "c.bt"),

@@ -59,6 +59,8 @@ def refuse_clashes(options, *more):
     words = [it for value in vars(options).values() for it in _listed(value)]
     inputs = [it for it in words if isinstance(it, Input)]
     outputs = [it for it in words if isinstance(it, Output)] + list(more)
+    if "" in inputs + outputs:
+        raise Unusable("the name of a file is empty (is a variable of the shell unset?)")
     if inputs.count("-") > 1:
         raise Unusable("- stands for two inputs, and the standard input can be read once")
     read, taken = {_identity(it, 0): it for it in inputs if _is_kept(it, 0)}, {}

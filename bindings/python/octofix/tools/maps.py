@@ -23,6 +23,8 @@ def read_map(name):
 def _read(name):
     """The map of a file, and whether it has values, as a snapshot."""
     content = read_bytes(name)
+    if not content:
+        raise Unusable("it is empty", name)
     if content.startswith(FLOAT_TREE):
         content = _snapshot_of_ot(name, content)
     is_snapshot = content[:8] in SNAPSHOTS
