@@ -373,6 +373,13 @@ class Words(InFolder):
                              given=b"1 2 3\n")  # fmt: skip
         self.assertFalse(os.path.exists("c.bt"))
 
+    def test_no_memory(self):
+        """Numpy's words of an array's type may be long."""
+        said = "Unable to allocate 21.3 MiB"
+        fault = MemoryError(f"{said} for an array with shape (698027,) and data type int64")
+        with mock.patch("octofix.tools.files._files.read", side_effect=fault):
+            self.refused(f"memory ran out: {said}", "info", "a.bt")
+
     def test_missing_libraries(self):
         """What is optional, with the name of Debian's package."""
         missing = ("PIL", "PIL.Image", "rosbag", "scipy.spatial")

@@ -350,3 +350,9 @@ class StandardOutput(Maps):
                 ran = subprocess.run(call, stdout=full, stderr=subprocess.PIPE)
             said = b"octofix: the output: No space left on device\n"
             self.assertEqual((ran.returncode, ran.stderr), (1, said))
+
+    def test_closed(self):
+        call = [sys.executable, "-m", "octofix", "crop", "wanted.bt", "--box", *"000999", "-o", "-"]
+        ran = subprocess.run(["sh", "-c", '"$@" >&-', "sh", *call], stderr=subprocess.PIPE)
+        said = b"octofix: the output: it is closed\n"
+        self.assertEqual((ran.returncode, ran.stderr), (1, said))

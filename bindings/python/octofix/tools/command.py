@@ -95,7 +95,9 @@ def _run(words):
         say(str(refused))
         return UNUSABLE
     except MemoryError as why:
-        say(str(why) or "memory ran out")
+        # (numpy's has the shape and the type of an array behind)
+        said = str(why).split(" for an array")[0]
+        say("memory ran out" + f": {said}" * bool(said))
         return UNUSABLE
     except RuntimeError as why:
         if str(why) != NO_THREAD:
@@ -108,7 +110,9 @@ def _run(words):
     except OSError as error:
         if error.filename is None:
             _give_output_up()
-        say(f"{error.filename or 'the output'}: {error.strerror or error}")
+        is_closed = isinstance(error, io.UnsupportedOperation)
+        said = error.strerror or ("it is closed" if is_closed else error)
+        say(f"{error.filename or 'the output'}: {said}")
         return UNUSABLE
 
 
