@@ -98,8 +98,8 @@ class Columns(Inputs):
         wide = np.arange(8.0).reshape(2, 4)
         self.is_refused(said, npy(wide))
         self.assertEqual(self.points(npy(wide), "--columns", "2,3,4"), ["1 2 3", "5 6 7"])
-        said = ": its array is 3 x 20 of float32: it looks transposed, and n x 3 numbers are needed "
-        self.is_refused(f"{said}(save array[:3].T)", npy(np.ones((3, 20), "f4")))
+        said = ": its array is 3 x 20 of float32: it looks transposed, and n x 3 numbers are needed"
+        self.is_refused(f"{said} (save array[:3].T)", npy(np.ones((3, 20), "f4")))
         self.assertEqual(self.points(npy(np.ones((3, 20))), "--columns", "1,2,3"), ["1 1 1"] * 3)
         records = np.array([(1, 2, 3)], [("a", "f8"), ("b", "f4"), ("c", "i8")])
         self.is_refused(": its record lacks x, y, z (--columns)", npy(records))
