@@ -30,6 +30,7 @@ _MOST_GROUPS, _MOST_CELLS = 2**26, 2**27
 _SOUGHT = {"known": 0, "occupied": 1, "free": 2}
 _GUESSED_EDGE = 0.1
 _NOT_COUNTED = 2**64 - 1  # more hits than a scan has
+_BOXES = 1 << 10  # edits of boxes that are done at once
 _CLOSE = _library.FUNCTIONS["close"]
 
 
@@ -328,6 +329,22 @@ class Map:
         events = _arrays.events_of_edits(event)
         change = int(events), int(_arrays.numbers_of_edits(number, events))
         self._do("edit_box", *corners, *change)
+
+    def _edit_boxes(
+        self,
+        lows: _arrays.Nanometres,
+        highs: _arrays.Nanometres,
+        event: int,
+        numbers: npt.NDArray[np.int64],
+    ) -> None:
+        """`edit_box` of many boxes from points to points in nanometres, (n, 3) each. Where one is
+        refused others may be done, also behind it."""
+        for start in range(0, len(lows), _BOXES):
+            part = slice(start, start + _BOXES)
+            rows = zip(lows[part].tolist(), highs[part].tolist(), numbers[part].tolist())
+            corners = ((_library.Point(*low), _library.Point(*high), it) for low, high, it in rows)
+            calls = [Call("edit_box", self._handle, *it[:2], event, it[2]) for it in corners]
+            done(self._lock.writing, *calls)
 
     def limit(self, low: npt.ArrayLike, high: npt.ArrayLike) -> None:
         """From now on scans change only voxels from that of `low` to that of `high`."""

@@ -17,6 +17,4 @@ def edit_blocks(world, leaves, event, numbers, steps=(0, 0, 0)):
     lows, highs = corners(leaves, steps)
     is_voxel = leaves.depths == VOXELS
     world.edit(lows[is_voxel] / NANO, event, numbers[is_voxel])
-    rest = zip(lows[~is_voxel] / NANO, highs[~is_voxel] / NANO, numbers[~is_voxel].tolist())
-    for low, high, number in rest:
-        world.edit_box(low, high, event, number)
+    world._edit_boxes(lows[~is_voxel], highs[~is_voxel], int(event), numbers[~is_voxel])
