@@ -262,7 +262,7 @@ class Kinds(Inputs):
 
     def test_empty_names(self):
         """As a shell makes them of a variable that isn't set: nothing is done without poses."""
-        said = ": No such file or directory"
+        said = "the name of a file is empty (is a variable of the shell unset?)"
         words = ["map", "--res", 1, DATA / "corner.xyz", "-o", "a.bt", "--poses"]
         self.refused(said, *words, "")
         self.refused(said, *words, DATA / "poses.tum", "--times", "")
