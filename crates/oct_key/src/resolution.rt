@@ -3,7 +3,6 @@ ghost use Rattle.std.specs.Prelude.{◌≡◌, ℕ, pos, ◌≤ℤ◌, ◌↔◌
 ghost use Rattle.oct_key.specs.Voxel.{Voxel, IsInMap, Holds, IsResolution, axis_key, key_at};
 
 use crate::point::{Key, Point};
-use oct_num::floor_div;
 use std::marker::Model;
 use thiserror::Error;
 
@@ -13,7 +12,7 @@ const SMALLEST: i64 = 100_000;
 const LARGEST: i64 = 100_000_000_000;
 
 /// The key of the voxels just above the origin.
-const MIDDLE: i128 = 32_768;
+const MIDDLE: i64 = 32_768;
 
 /// A resolution: the edge of a voxel, from 0.1 mm to 100 m. Contracts see it as its number of
 /// nanometres.
@@ -86,7 +85,7 @@ fn key_on_axis(edge: u64, c: i64) -> Option<u16>
     requires { IsResolution edge }
     ensures { result ≡ axis_key edge c }
 {
-    let key = floor_div(i128::from(c), i128::from(edge)) + MIDDLE;
+    let key = c.div_euclid(edge as i64) + MIDDLE;
     u16::try_from(key).ok()
 }
 
