@@ -7,12 +7,12 @@ use Rattle.std.proofs.lemmas.Nat.{le-div}
 use Rattle.std.proofs.Math.Nat.{div-mul-le_self, div-lt_iff_lt-mul, mul-le-mul_right, le-max_left}
 use Rattle.oct_key.specs.Voxel.{IsResolution, key_at}
 use Rattle.oct_key.specs.declared.point.Point.{Point}
-use Rattle.oct_ray.specs.Axis.{HasRoom, IsAxisBetween, IsAxisOf, IsOnMap, IsRisingAxis}
+use Rattle.oct_ray.specs.Axis.{AreAxesOf, HasRoom, IsAxisBetween, IsAxisOf, IsOnMap, IsRisingAxis}
 use Rattle.oct_ray.specs.Axis.{IsFallingAxis}
 use Rattle.oct_ray.specs.Segment.{IsWalkAlong}
 use Rattle.oct_ray.specs.Met.{height_of, rising_axis, falling_axis, axis_between, axis_of, met_by}
 use Rattle.oct_ray.proofs.MapFaces.{on_map_with_key}
-use Rattle.oct_ray.proofs.Starts.{IsMade, IsNewWalk, made_set, new_walk, quotient_and_rest}
+use Rattle.oct_ray.proofs.Starts.{IsNewWalk, made_set, new_walk, quotient_and_rest}
 
 -- a greater number has no smaller quotient, and a quotient of what is below the
 -- map's upper face is below 65536
@@ -152,7 +152,7 @@ unfolding met_by
 met_by_new edge o e range key_o key_e =
     let at_o = on_map_with_key edge o (omega arith) key_o in
     let at_e = on_map_with_key edge e (omega arith) key_e in
-    let made : IsMade edge o e (axis_of edge o.x e.x) (axis_of edge o.y e.y)
+    let made : AreAxesOf edge o e (axis_of edge o.x e.x) (axis_of edge o.y e.y)
     (axis_of edge o.z e.z) =
     record {
       is_a = axis_of_room edge o.x e.x range at_o.x at_e.x;

@@ -6,12 +6,12 @@ use Rattle.std.proofs.lemmas.Int.{ints}
 use Rattle.oct_key.specs.declared.point.Point.{Point}
 use Rattle.oct_ray.specs.declared.axis.Axis.{Axis}
 use Rattle.oct_ray.specs.declared.track.Track.{Track}
-use Rattle.oct_ray.specs.Axis.{IsAxisBetween, IsAxisOf, IsRisingAxis, IsFallingAxis}
+use Rattle.oct_ray.specs.Axis.{AreAxesOf, IsAxisBetween, IsAxisOf, IsRisingAxis, IsFallingAxis}
 use Rattle.oct_ray.specs.Met.{height_of, rising_axis, falling_axis, axis_between, axis_of}
 use Rattle.oct_ray.specs.Met.{keys_along, met_by}
 use Rattle.oct_ray.specs.Track.{IsTrackOf, keys_to_come}
 use Rattle.oct_ray.proofs.Tracks.{keys_are, make_walk}
-use Rattle.oct_ray.proofs.Starts.{IsMade, made_tracks}
+use Rattle.oct_ray.proofs.Starts.{made_tracks}
 
 abbrev axis : ℕ → Bool → ℕ → ℕ → ℕ → ℕ → Axis
 axis key rises crossings distance span edge = record {
@@ -70,7 +70,7 @@ one_axis_of edge o e x of =
 
 -- so the voxels to come at the origin are those that are computed
 pub computed_walk : (edge : ℕ) (o e : Point) (a b c : Axis) (x y z : Track)
-    → IsMade edge o e a b c → IsTrackOf x a b c → IsTrackOf y b c a → IsTrackOf z c a b →
+    → AreAxesOf edge o e a b c → IsTrackOf x a b c → IsTrackOf y b c a → IsTrackOf z c a b →
     keys_to_come (make_walk x y z true) ≡ met_by edge o e
 unfolding met_by
 computed_walk edge o e a b c x y z made tx ty tz =

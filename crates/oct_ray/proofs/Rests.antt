@@ -4,7 +4,7 @@ use Rattle.std.proofs.Common.{◌≡◌, ℕ, zero, suc, ◌+◌, ◌*◌, ◌/�
 use Rattle.std.proofs.Common.{[], ◌∷◌, ◌++◌, refl, arith, inl, inr, sym, subst, ◌∙◌, ap}
 use Rattle.std.proofs.lemmas.Bool.{cases_lt, ne_eqb}
 use Rattle.oct_key.specs.Voxel.{Voxel}
-use Rattle.oct_ray.specs.Axis.{HasRoom, crosses, axis_after, axis_keys, axis_voxel}
+use Rattle.oct_ray.specs.Axis.{AreAxesOf, HasRoom, crosses, axis_keys, axis_voxel}
 use Rattle.oct_ray.specs.Given.{IsRestOf}
 use Rattle.oct_ray.specs.Met.{axis_after_crossings, axis_after_part, crossings_within}
 use Rattle.oct_ray.specs.Met.{keys_along, met_by, met_after}
@@ -20,7 +20,7 @@ use Rattle.oct_ray.proofs.KeyLists.{keys_suc, keys_enough}
 use Rattle.oct_ray.proofs.LaterAxes.{none_taken, taken_after, taken_room, taken_ending}
 use Rattle.oct_ray.proofs.LaterAxes.{within_crossings, within_at, after_part}
 use Rattle.oct_ray.proofs.OneAxis.{one_axis_of}
-use Rattle.oct_ray.proofs.Starts.{IsMade, axis_ending}
+use Rattle.oct_ray.proofs.Starts.{axis_ending}
 use Rattle.oct_ray.proofs.Tracks.{keys_are, make_walk, walk_goes_on}
 use Rattle.oct_ray.proofs.Visits.{IsAt, at_axis_after, at_moved, crosses_others}
 use Rattle.oct_ray.proofs.Visits.{next_crossing_passed}
@@ -109,7 +109,7 @@ rest_of_keys (suc f) x y z i j h m ix iy iz im at_x at_y at_z enough =
 -- three axes of a segment, what is left of them after a part of it, and the tracks of that
 pub record AreLater (part edge : ℕ) (o e : Point) (a b c a' b' c' : Axis) (x y z : Track)
     : Type 0 where
-  pub made : IsMade edge o e a b c
+  pub made : AreAxesOf edge o e a b c
   pub later_a : a' ≡ axis_after_part part a
   pub later_b : b' ≡ axis_after_part part b
   pub later_c : c' ≡ axis_after_part part c
@@ -172,7 +172,7 @@ later_computed part edge o e a b c a' b' c' x y z h =
     (h.later_b ∙ ap (axis_after_part part) (one_axis_of edge o.y e.y b h.made.of_b))
     (h.later_c ∙ ap (axis_after_part part) (one_axis_of edge o.z e.z c h.made.of_c))
 
-all_met : (edge : ℕ) (o e : Point) (a b c : Axis) → IsMade edge o e a b c
+all_met : (edge : ℕ) (o e : Point) (a b c : Axis) → AreAxesOf edge o e a b c
     → met_by edge o e ≡ keys_along a b c
 unfolding met_by
 all_met edge o e a b c made =

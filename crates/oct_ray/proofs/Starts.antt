@@ -4,7 +4,7 @@ use Rattle.std.proofs.Common.{inr, sym, ◌∙◌, ap, subst, length, slice_get,
 use Rattle.std.proofs.Common.{◌-ℤ◌}
 use Rattle.std.proofs.lemmas.Bool.{cases_lt}
 use Rattle.std.proofs.lemmas.Int.{ints}
-use Rattle.oct_ray.specs.Axis.{IsAxisBetween, IsAxisOf}
+use Rattle.oct_ray.specs.Axis.{AreAxesOf, IsAxisBetween, IsAxisOf}
 use Rattle.oct_ray.proofs.Crossings.{crossings_left}
 use Rattle.oct_ray.specs.Axis.{HasRoom}
 use Rattle.oct_ray.specs.Track.{IsEnding}
@@ -22,7 +22,7 @@ use Rattle.oct_ray.proofs.Tracks.{make_walk, keys_are}
 use Rattle.oct_ray.proofs.Segments.{IsSet, keys_walk}
 
 -- what a height says of a coordinate
-height_diff : (edge a : ℕ) (c : ℤ) → c ≡ (pos a -ℤ pos (32768 * edge))
+pub height_diff : (edge a : ℕ) (c : ℤ) → c ≡ (pos a -ℤ pos (32768 * edge))
     → IsDifference c a (32768 * edge)
 height_diff edge a c h = record { same = omega (arith, ints) }
 
@@ -137,16 +137,7 @@ axis_ending edge o e x ix l = elim (cases_lt l.b l.a) [
   }
 ]
 
--- the three axes of a segment, as `new` makes them
-pub record IsMade (edge : ℕ) (o e : Point) (a b c : Axis) : Type 0 where
-  pub is_a : HasRoom a
-  pub is_b : HasRoom b
-  pub is_c : HasRoom c
-  pub of_a : IsAxisOf edge o.x e.x a
-  pub of_b : IsAxisOf edge o.y e.y b
-  pub of_c : IsAxisOf edge o.z e.z c
-
-pub made_set : (edge : ℕ) (o e : Point) (a b c : Axis) → IsMade edge o e a b c
+pub made_set : (edge : ℕ) (o e : Point) (a b c : Axis) → AreAxesOf edge o e a b c
     → IsSet edge o e a b c
 made_set edge o e a b c m = record {
   is_x = m.is_a;
@@ -158,7 +149,7 @@ made_set edge o e a b c m = record {
 }
 
 abbrev pub made_tracks : (edge : ℕ) (o e : Point) (a b c : Axis) (x y z : Track)
-    → IsMade edge o e a b c → IsTrackOf x a b c → IsTrackOf y b c a → IsTrackOf z c a b
+    → AreAxesOf edge o e a b c → IsTrackOf x a b c → IsTrackOf y b c a → IsTrackOf z c a b
     → AreTracks x y z
 made_tracks edge o e a b c x y z m tx ty tz = record {
   a = a;
@@ -201,7 +192,7 @@ walk_equal edge o e ks ls h w = subst (λ (v : List Voxel). IsNewWalk edge o e v
 
 -- and those that the tracks of these axes give
 made_walk : (edge : ℕ) (o e : Point) (a b c : Axis) (x y z : Track) → 1 ≤ edge
-    → IsSome (key_at edge o) → IsSome (key_at edge e) → IsMade edge o e a b c →
+    → IsSome (key_at edge o) → IsSome (key_at edge e) → AreAxesOf edge o e a b c →
     IsTrackOf x a b c → IsTrackOf y b c a → IsTrackOf z c a b
     → IsNewWalk edge o e (keys_to_come (make_walk x y z true))
 made_walk edge o e a b c x y z positive ko ke m tx ty tz =
@@ -211,9 +202,9 @@ made_walk edge o e a b c x y z positive ko ke m tx ty tz =
 
 -- for the edge as a number
 pub made_at : (res edge : ℕ) (o e : Point) (a b c : Axis) (x y z : Track) → edge ≡ res
-    → IsResolution edge → IsSome (key_at res o) → IsSome (key_at res e) → IsMade edge o e a b c →
+    → IsResolution edge → IsSome (key_at res o) → IsSome (key_at res e) → AreAxesOf edge o e a b c →
     IsTrackOf x a b c → IsTrackOf y b c a → IsTrackOf z c a b
     → IsNewWalk res o e (keys_to_come (make_walk x y z true))
 made_at res edge o e a b c x y z h range ko ke m tx ty tz =
-    made_walk res o e a b c x y z (omega arith) ko ke (subst (λ (n : ℕ). IsMade n o e a b c) h m) tx
+    made_walk res o e a b c x y z (omega arith) ko ke (subst (λ (n : ℕ). AreAxesOf n o e a b c) h m) tx
     ty tz

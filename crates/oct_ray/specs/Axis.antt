@@ -3,6 +3,7 @@ use Rattle.std.specs.Prelude.{◌≡◌, ℕ, zero, suc, ◌+◌, ◌-◌, ◌*�
 use Rattle.std.specs.Prelude.{◌==◌, nat_le, Bool, true, false, not, ◌&&◌, ◌||◌, if◌then◌else◌}
 use Rattle.std.specs.Prelude.{List, [], ◌∷◌, ℤ, pos, neg_ℤ, ◌-ℤ◌, ◌≤ℤ◌, ◌<ℤ◌}
 use Rattle.oct_key.specs.Voxel.{Voxel}
+use Rattle.oct_key.specs.declared.point.Point.{Point}
 use Rattle.oct_ray.specs.declared.axis.Axis.{Axis}
 
 -- a coordinate lies on the map, whose faces are 32768 voxels away from the origin
@@ -51,6 +52,15 @@ pub record IsAxisOf (edge : ℕ) (o e : ℤ) (axis : Axis) : Type 0 where
   pub o_is : o ≡ (pos a -ℤ pos (32768 * edge))
   pub e_is : e ≡ (pos b -ℤ pos (32768 * edge))
   pub laid : IsAxisBetween edge a b axis
+
+-- these are the axes of the segment from o to e, and small enough to compute with
+pub record AreAxesOf (edge : ℕ) (o e : Point) (a b c : Axis) : Type 0 where
+  pub is_a : HasRoom a
+  pub is_b : HasRoom b
+  pub is_c : HasRoom c
+  pub of_a : IsAxisOf edge o.x e.x a
+  pub of_b : IsAxisOf edge o.y e.y b
+  pub of_c : IsAxisOf edge o.z e.z c
 
 -- 1 where an axis falls: a voxel has its lower face, so that one is left only just beyond the face
 abbrev pub lateness : Axis → ℕ

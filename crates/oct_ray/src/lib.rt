@@ -26,6 +26,7 @@
 //! - A [`Walk`] is seen as the list of the voxels that it has still to give, at most 3 * 65,535 + 1
 //!   of them. As an iterator it takes off the first, and gives `None` exactly where the list is
 //!   empty.
+//! - [`Walk::between`] is the same for whoever knows the voxels of both ends, and divides nothing.
 //! - [`Walk::after`] begins just after a part of the beam: what is left of the list there, for
 //!   whoever has no use for the voxels before.
 //! - [`Walk::near`] makes the same list a [`NearWalk`], in numbers of 64 bits, where they fit. Both

@@ -1,8 +1,9 @@
 //! A beam followed voxel by voxel, from face to face.
 ghost use Rattle.std.specs.Prelude.{◌≡◌, ◌+◌, ◌-◌, ◌*◌, ◌^◌, ◌<◌, ◌≤◌, [], length, slice_get};
-ghost use Rattle.std.specs.Prelude.{IsSome, IfSome, IfNone, IfOk, IfErr};
+ghost use Rattle.std.specs.Prelude.{IsSome, IfSome, IfNone, IfOk, IfErr, Some};
 ghost use Rattle.std.specs.Iterator.{YieldsFirst, item_count};
 ghost use Rattle.oct_key.specs.Voxel.{IsResolution, key_at};
+ghost use Rattle.oct_ray.specs.Axis.{AreAxesOf};
 ghost use Rattle.oct_ray.specs.Segment.{IsWalkAlong};
 ghost use Rattle.oct_ray.specs.Given.{HasGiven, HasLast, HasNext, IsRestOf};
 ghost use Rattle.oct_ray.specs.Met.{met_by, met_after};
@@ -53,10 +54,22 @@ impl Walk {
         ensures last { slice_get result (length result - 1) ≡ key_at res e }
         ensures few { length result ≤ 3 * 65535 + 1 }
     {
-        let edge = edge_of(res);
-        let x = Axis::new(edge, o.x, e.x);
-        let y = Axis::new(edge, o.y, e.y);
-        let z = Axis::new(edge, o.z, e.z);
+        let start = res.key_of(o).unwrap();
+        let end = res.key_of(e).unwrap();
+        Walk::between(res, o, e, start, end)
+    }
+
+    /// The same walk, by whoever knows the voxels of both ends: they aren't looked for again.
+    pub fn between(res: Res, o: Point, e: Point, start: Key, end: Key) -> Walk
+        requires start { key_at res o ≡ Some start }
+        requires end { key_at res e ≡ Some end }
+        ensures walk { IsWalkAlong res o e result }
+        ensures computed { result ≡ met_by res o e }
+        ensures first { slice_get result 0 ≡ Some start }
+        ensures last { slice_get result (length result - 1) ≡ Some end }
+        ensures few { length result ≤ 3 * 65535 + 1 }
+    {
+        let (x, y, z) = axes_between(res, o, e, start, end);
         Walk {
             x: Track::new(&x, &y, &z),
             y: Track::new(&y, &z, &x),
@@ -65,18 +78,15 @@ impl Walk {
         }
     }
 
-    /// The rest of the walk from `o` to `e` just after this part of it, in 65,536ths: where the
-    /// voxels before are of no use, they need not be walked.
-    pub fn after(res: Res, o: Point, e: Point, part: u16) -> Walk
-        requires origin { IsSome (key_at res o) }
-        requires end { IsSome (key_at res e) }
+    /// The rest of the walk from `o` to `e`, which these two voxels hold, just after this part of
+    /// it, in 65,536ths: where the voxels before are of no use, they need not be walked.
+    pub fn after(res: Res, o: Point, e: Point, start: Key, end: Key, part: u16) -> Walk
+        requires start { key_at res o ≡ Some start }
+        requires end { key_at res e ≡ Some end }
         ensures computed { result ≡ met_after part res o e }
         ensures rest { IsRestOf (met_by res o e) result }
     {
-        let edge = edge_of(res);
-        let x = Axis::new(edge, o.x, e.x);
-        let y = Axis::new(edge, o.y, e.y);
-        let z = Axis::new(edge, o.z, e.z);
+        let (x, y, z) = axes_between(res, o, e, start, end);
         let late_x = x.after(part);
         let late_y = y.after(part);
         let late_z = z.after(part);
@@ -151,6 +161,20 @@ impl BeamWalk for Walk {
         advance(&mut self.x, &mut self.y, &mut self.z);
         Some(next)
     }
+}
+
+/// The axes of the segment from `o` to `e`, which these two voxels hold.
+#[inline(always)]
+fn axes_between(res: Res, o: Point, e: Point, start: Key, end: Key) -> (Axis, Axis, Axis)
+    requires start { key_at res o ≡ Some start }
+    requires end { key_at res e ≡ Some end }
+    ensures { AreAxesOf res o e result.0 result.1 result.2 }
+{
+    let edge = edge_of(res);
+    let x = Axis::new(edge, o.x, e.x, start.x, end.x);
+    let y = Axis::new(edge, o.y, e.y, start.y, end.y);
+    let z = Axis::new(edge, o.z, e.z, start.z, end.z);
+    (x, y, z)
 }
 
 /// The edge of a voxel, in nanometres.

@@ -8,6 +8,7 @@ pub mod Gathering
 pub mod BeamCuts
 pub mod OutsideEnds
 pub mod Holding
+pub mod Placed
 pub mod Parts
 pub mod BrickCounts
 pub mod Settling

@@ -113,7 +113,7 @@ pub fn update_bricks(
     };
     judge(scan, res, start, max_cells)?;
     let beams = beams_of(alloc, scan, res)?;
-    let bricks = gather(alloc, res, origin, &beams, &window)?;
+    let bricks = gather(alloc, res, origin, start, &beams, &window)?;
     let set = merge_update(alloc, bricks)?;
     Ok(set)
 }

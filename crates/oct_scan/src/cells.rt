@@ -1,11 +1,12 @@
 //! Beams walked into bricks, whole or as far as they lie in a box.
-ghost use Rattle.std.specs.Prelude.{◌≡◌, ℕ, ◌/◌, ◌^◌, ◌<◌, ◌↔◌, ◌⊎◌, []};
+ghost use Rattle.std.specs.Prelude.{◌≡◌, ◌≢◌, ℕ, ◌/◌, ◌^◌, ◌<◌, ◌↔◌, ◌⊎◌, []};
 ghost use Rattle.std.specs.Prelude.{◌∷◌, length, map, if◌then◌else◌, All, Contains, IfOk};
-ghost use Rattle.std.specs.Prelude.{OnOk, OnErr, IfSome, IsNone, IsSome, Option, Some};
+ghost use Rattle.std.specs.Prelude.{false, OnOk, OnErr, IfSome, IsNone, Option, Some};
 ghost use Rattle.oct_key.specs.Boxes.{IsInBox};
 ghost use Rattle.oct_key.specs.Voxel.{Voxel, IsInMap, key_at};
 ghost use Rattle.oct_key.specs.Morton.{morton_of};
 ghost use Rattle.oct_brick.specs.Bricks.{scanned_codes, hit_codes, IsBrick};
+ghost use Rattle.oct_scan.specs.Beam.{bare, bare_beam, IsPlaced};
 ghost use Rattle.oct_scan.specs.Order.{AreKeys};
 ghost use Rattle.oct_scan.specs.Gathered.{HoldAllGathered, IsBeamHeld, IsHeld, IsCurrent};
 ghost use Rattle.oct_ray.specs.Met.{met_by};
@@ -13,7 +14,7 @@ ghost use Rattle.oct_scan.specs.Entry.{HasComeIn, IsWay, StaysOut};
 ghost use Rattle.oct_scan.specs.Gathered.{is_mute, EndsAt, GoesTo, IsRestAdded, IsWayAdded};
 ghost use Rattle.oct_scan.specs.Piled.{AreFew};
 
-use crate::beam::Beam;
+use crate::beam::PlacedBeam;
 use crate::code_box::CodeBox;
 use crate::entry::{is_passed_by, walk_to_box};
 use crate::order::{LEAST_KEYED, MOST_KEYED, sorted_keys};
@@ -30,22 +31,22 @@ pub fn gather(
     alloc: Global,
     res: Res,
     origin: Point,
-    beams: &[Beam],
+    start: Key,
+    beams: &[PlacedBeam],
     window: &Option<Window>,
 ) -> Result<Vec<Brick>, Memory>
-    requires origin { IsSome (key_at res origin) }
-    requires ends { All (λ b. IsSome (key_at res b.end)) beams.now }
+    requires start { key_at res origin ≡ Some start }
+    requires placed { All (IsPlaced res) beams.now }
     ensures gathered { IfOk result (λ bricks.
-        HoldAllGathered res window.now origin beams.now bricks.items) }
+        HoldAllGathered res window.now origin (bare beams.now) bricks.items) }
     ensures bricks { IfOk result (λ bricks. All IsBrick bricks.items) }
     ensures few { IfOk result (λ bricks. (n : ℕ) × AreFew n bricks.items) }
     ensures some { OnErr result (0 < length beams.now) }
 {
     let mut bricks = BrickPile::new(alloc);
-    let start = res.key_of(origin).unwrap();
     let count = beams.len() as u64;
     if LEAST_KEYED <= count && count <= MOST_KEYED {
-        let keys = sorted_keys(alloc, res, beams)?;
+        let keys = sorted_keys(alloc, beams)?;
         add_by_keys(&mut bricks, res, origin, start, beams, &keys, window)?;
     } else {
         add_beams(&mut bricks, res, origin, start, beams, window)?;
@@ -60,15 +61,16 @@ fn add_by_keys(
     res: Res,
     origin: Point,
     start: Key,
-    beams: &[Beam],
+    beams: &[PlacedBeam],
     keys: &[u64],
     window: &Option<Window>,
 ) -> Result<(), Memory>
     requires start { key_at res origin ≡ Some start }
-    requires ends { All (λ b. IsSome (key_at res b.end)) beams.now }
+    requires placed { All (IsPlaced res) beams.now }
     requires keys { AreKeys beams.now keys.now }
     requires none { bricks.old ≡ [] }
-    ensures gathered { OnOk result (HoldAllGathered res window.now origin beams.now bricks.new) }
+    ensures gathered { OnOk result (HoldAllGathered res window.now origin (bare beams.now)
+        bricks.new) }
     ensures bricks { OnOk result (All IsBrick bricks.new) }
     ensures some { OnErr result (0 < length beams.now) }
 {
@@ -91,13 +93,14 @@ fn add_beams(
     res: Res,
     origin: Point,
     start: Key,
-    beams: &[Beam],
+    beams: &[PlacedBeam],
     window: &Option<Window>,
 ) -> Result<(), Memory>
     requires start { key_at res origin ≡ Some start }
-    requires ends { All (λ b. IsSome (key_at res b.end)) beams.now }
+    requires placed { All (IsPlaced res) beams.now }
     requires none { bricks.old ≡ [] }
-    ensures gathered { OnOk result (HoldAllGathered res window.now origin beams.now bricks.new) }
+    ensures gathered { OnOk result (HoldAllGathered res window.now origin (bare beams.now)
+        bricks.new) }
     ensures bricks { OnOk result (All IsBrick bricks.new) }
     ensures some { OnErr result (0 < length beams.now) }
 {
@@ -113,29 +116,29 @@ fn add_beam(
     res: Res,
     origin: Point,
     start: Key,
-    beam: Beam,
+    beam: PlacedBeam,
     window: &Option<Window>,
 ) -> Result<(), Memory>
     requires start { key_at res origin ≡ Some start }
-    requires end { IsSome (key_at res beam.end) }
+    requires placed { IsPlaced res beam }
     requires bricks { All IsBrick bricks.old }
-    ensures added { OnOk result ((met : ℕ) × IsBeamHeld res window.now origin beam met
+    ensures added { OnOk result ((met : ℕ) × IsBeamHeld res window.now origin (bare_beam beam) met
         bricks.old bricks.new) }
     ensures bricks { OnOk result (All IsBrick bricks.new) }
 {
-    let end = res.key_of(beam.end).unwrap();
+    let end = beam.voxel;
     push_kept(bricks, res, origin, beam.end, start, end, window)?;
-    push_end(bricks, morton(end), is_mute(window, beam, end))?;
+    push_end(bricks, morton(end), is_mute(window, beam))?;
     Ok(())
 }
 
 /// Whether a beam says nothing of the voxel where it ends: it is cut there, or that voxel lies
 /// outside the box.
-fn is_mute(window: &Option<Window>, beam: Beam, end: Key) -> bool
-    ensures { result ≡ is_mute window.now beam end }
+fn is_mute(window: &Option<Window>, beam: PlacedBeam) -> bool
+    ensures { result ≡ is_mute window.now (bare_beam beam) beam.voxel }
 {
     let is_outside = match window {
-        Some(window) => !window.holds(end),
+        Some(window) => !window.holds(beam.voxel),
         None => false,
     };
     beam.is_cut || is_outside
@@ -151,15 +154,19 @@ fn push_kept(
     end: Key,
     window: &Option<Window>,
 ) -> Result<(), Memory>
-    requires origin { IsSome (key_at res origin) }
-    requires target { IsSome (key_at res target) }
+    requires start { key_at res origin ≡ Some start }
+    requires end { key_at res target ≡ Some end }
     requires way { IsWay start end (met_by res origin target) }
     requires bricks { All IsBrick bricks.old }
     ensures { OnOk result (IsWayAdded window.now (morton_of end) (met_by res origin target)
         bricks.old bricks.new) }
 {
     match window {
-        None => push_way(bricks, Walk::new(res, origin, target), morton(end)),
+        None => push_way(
+            bricks,
+            Walk::between(res, origin, target, start, end),
+            morton(end),
+        ),
         Some(window) => push_part(bricks, res, origin, target, start, end, window),
     }
 }
@@ -175,15 +182,19 @@ fn push_part(
     end: Key,
     window: &Window,
 ) -> Result<(), Memory>
-    requires origin { IsSome (key_at res origin) }
-    requires target { IsSome (key_at res target) }
+    requires start { key_at res origin ≡ Some start }
+    requires end { key_at res target ≡ Some end }
     requires way { IsWay start end (met_by res origin target) }
     requires bricks { All IsBrick bricks.old }
     ensures { OnOk result (IsWayAdded (Some window.now) (morton_of end) (met_by res origin target)
         bricks.old bricks.new) }
 {
     if window.holds(start) && window.holds(end) {
-        push_way(bricks, Walk::new(res, origin, target), morton(end))
+        push_way(
+            bricks,
+            Walk::between(res, origin, target, start, end),
+            morton(end),
+        )
     } else if is_passed_by(window, start, end) {
         Ok(())
     } else {
@@ -332,6 +343,7 @@ fn push_code(bricks: &mut BrickPile, brick: Brick, code: u64) -> Result<Brick, M
         Contains (hit_codes bricks.new) c ↔ Contains (hit_codes bricks.old) c) }
     ensures current { IfOk result IsCurrent }
     ensures bricks { OnOk result (All IsBrick bricks.new) }
+    ensures other { OnErr result (code / 64 ≢ brick.code) }
 {
     if code >> 6 == brick.code {
         return Ok(brick.with_scanned(code));
@@ -349,6 +361,7 @@ fn push_some(bricks: &mut BrickPile, brick: Brick) -> Result<(), Memory>
     ensures hits { OnOk result ((c : ℕ) →
         Contains (hit_codes bricks.new) c ↔ Contains (hit_codes bricks.old) c) }
     ensures bricks { OnOk result (All IsBrick bricks.new) }
+    ensures some { OnErr result (brick.scanned ≢ 0) }
 {
     if brick.scanned != 0 {
         bricks.push(brick)?;
@@ -367,6 +380,7 @@ fn push_end(bricks: &mut BrickPile, end: u64, is_mute: bool) -> Result<(), Memor
         (Contains (hit_codes bricks.old) c
         ⊎ Contains (if is_mute then [] else end ∷ []) c)) }
     ensures bricks { OnOk result (All IsBrick bricks.new) }
+    ensures loud { OnErr result (is_mute ≡ false) }
 {
     if !is_mute {
         bricks.push(Brick::around(end).with_hit(end))?;

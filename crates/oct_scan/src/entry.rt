@@ -1,5 +1,5 @@
 //! Where the walk along a beam comes to a box.
-ghost use Rattle.std.specs.Prelude.{◌≡◌, Some, IsSome, IsTrue};
+ghost use Rattle.std.specs.Prelude.{◌≡◌, Some, IsTrue};
 ghost use Rattle.oct_key.specs.Boxes.{IsInBox};
 ghost use Rattle.oct_key.specs.Voxel.{Voxel, key_at};
 ghost use Rattle.oct_ray.specs.Met.{met_by};
@@ -30,19 +30,26 @@ pub fn walk_to_box(
     end: Key,
     window: &Window,
 ) -> Walk
-    requires origin { IsSome (key_at res origin) }
-    requires target { IsSome (key_at res target) }
+    requires start { key_at res origin ≡ Some start }
+    requires end { key_at res target ≡ Some end }
     requires way { IsWay start end (met_by res origin target) }
     ensures { IsWalkTo window.now start end (met_by res origin target) result }
 {
     if window.holds(start) {
-        return Walk::new(res, origin, target);
+        return Walk::between(res, origin, target, start, end);
     }
-    let rest = Walk::after(res, origin, target, part_before(window, start, end));
+    let rest = Walk::after(
+        res,
+        origin,
+        target,
+        start,
+        end,
+        part_before(window, start, end),
+    );
     if is_before(window, start, &rest) {
         rest
     } else {
-        Walk::new(res, origin, target)
+        Walk::between(res, origin, target, start, end)
     }
 }
 

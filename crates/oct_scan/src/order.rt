@@ -1,11 +1,10 @@
 //! Beams in the order of the bricks where they end.
-ghost use Rattle.std.specs.Prelude.{◌^◌, ◌<◌, ◌≤◌, All, IfOk, OnErr, IsSome, length};
+ghost use Rattle.std.specs.Prelude.{◌^◌, ◌<◌, ◌≤◌, All, IfOk, OnErr, length};
 ghost use Rattle.std.specs.List.Sorted.{IsNonDecreasing};
-ghost use Rattle.oct_key.specs.Voxel.{key_at};
 ghost use Rattle.oct_scan.specs.Order.{AreKeys, IsCoded};
 
-use crate::beam::Beam;
-use oct_key::{Res, morton};
+use crate::beam::PlacedBeam;
+use oct_key::morton;
 use oct_num::Memory;
 use std::alloc::Global;
 
@@ -17,18 +16,16 @@ pub const MOST_KEYED: u64 = 1 << 19;
 pub const LEAST_KEYED: u64 = 4096;
 
 /// The keys of the beams, in order: those that end side by side stand together.
-pub fn sorted_keys(alloc: Global, res: Res, beams: &[Beam]) -> Result<Vec<u64>, Memory>
-    requires ends { All (λ b. IsSome (key_at res b.end)) beams.now }
+pub fn sorted_keys(alloc: Global, beams: &[PlacedBeam]) -> Result<Vec<u64>, Memory>
     requires few { length beams.now ≤ 2 ^ 19 }
     ensures keys { IfOk result (λ keys. AreKeys beams.now keys.items) }
-    ensures coded { IfOk result (λ keys. All (IsCoded res beams.now) keys.items) }
+    ensures coded { IfOk result (λ keys. All (IsCoded beams.now) keys.items) }
     ensures order { IfOk result (λ keys. IsNonDecreasing keys.items) }
     ensures some { OnErr result (0 < length beams.now) }
 {
     let mut keys = Vec::new(alloc);
     for (place, beam) in beams.iter().enumerate() {
-        let end = res.key_of(beam.end).unwrap();
-        keys.push((morton(end) >> 6) * MOST_KEYED + place as u64)?;
+        keys.push((morton(beam.voxel) >> 6) * MOST_KEYED + place as u64)?;
     }
     keys.sort_unstable();
     Ok(keys)

@@ -155,8 +155,9 @@ fn stops_before_the_last_voxel(rt: HostRuntime) -> Result<(), Fail> {
 
 /// What is left of a walk between two points of the map after a part of its way, in 65,536ths.
 fn rest(rt: &impl Abort, res: Res, o: Point, e: Point, part: u16) -> Walk {
-    assert!(rt; res.key_of(o).is_some() && res.key_of(e).is_some());
-    Walk::after(res, o, e, part)
+    let start = res.key_of(o).expect(rt, "a point of the map");
+    let end = res.key_of(e).expect(rt, "a point of the map");
+    Walk::after(res, o, e, start, end, part)
 }
 
 #[test]

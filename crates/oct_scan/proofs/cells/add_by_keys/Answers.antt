@@ -1,7 +1,7 @@
 use Rattle.std.proofs.Common.{false, refl, arith, rules}
 use Rattle.std.specs.Prelude.{IsSome}
 use Rattle.oct_key.specs.Voxel.{IsResolution, key_at}
-use Rattle.oct_scan.specs.declared.beam.Beam.{Beam}
+use Rattle.oct_scan.specs.declared.beam.PlacedBeam.{PlacedBeam}
 use Rattle.oct_scan.proofs.Holding.{all_none}
 use Rattle.oct_scan.proofs.Ordered.{all_keyed, all_moved}
 use Rattle.oct_scan.proofs.cells.add_by_keys.Goals as goal
@@ -27,7 +27,7 @@ pub returns-clause-gathered : goal.returns-clause-gathered
 returns-clause-gathered c =
     let range : IsResolution c.args.res = search rules in
     let some : IsSome (key_at c.args.res c.args.origin) = search rules in
-    let d : Beam = record { end = c.args.origin; is_cut = false } in
+    let d : PlacedBeam = record { end = c.args.origin; voxel = c.args.start; is_cut = false } in
     all_moved c.args.res c.args.window.now c.args.origin c.args.beams.now c.args.keys.now
-    c.loop-key.key-index d c.loop-key.bricks range some c.requires.ends
+    c.loop-key.key-index d c.loop-key.bricks range some c.requires.placed
     c.requires.keys (omega (arith, c.loop-key-test.false)) (c.loop-key.invariant.held d)

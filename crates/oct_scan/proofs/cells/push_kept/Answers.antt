@@ -12,7 +12,7 @@ push_way-requires-clause-ends c =
       c.args.end,
       on_map,
       sym c.morton.ensures.exact,
-      subst (λ (ks : List Voxel). EndsAt c.args.end ks) (sym c.new.ensures.computed)
+      subst (λ (ks : List Voxel). EndsAt c.args.end ks) (sym c.between.ensures.computed)
           c.requires.way.ends,
     )
 
@@ -21,7 +21,7 @@ returns-in-None c =
     added_as c.push_way.result None c.args.window.now c.morton.result (morton_of c.args.end) _ _
     c.args.bricks.now c.push_way.new.bricks
     (ap (λ w. kept w (met_by c.args.res c.args.origin c.args.target)) c.in-None.is
-    ∙ sym c.new.ensures.computed)
+    ∙ sym c.between.ensures.computed)
     c.morton.ensures.exact c.push_way.ensures
 
 pub returns-in-Some : goal.returns-in-Some

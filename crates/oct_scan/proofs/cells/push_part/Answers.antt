@@ -13,7 +13,7 @@ push_way-requires-clause-ends c =
       c.args.end,
       on_map,
       sym c.morton.ensures.exact,
-      subst (λ (ks : List Voxel). EndsAt c.args.end ks) (sym c.new.ensures.computed)
+      subst (λ (ks : List Voxel). EndsAt c.args.end ks) (sym c.between.ensures.computed)
           c.requires.way.ends,
     )
 
@@ -24,7 +24,7 @@ returns-then-holds-2 c =
     (c.holds.ensures.means.0 c.if-holds.true) (c.holds-then-holds.ensures.means.0 c.if-holds-2.true)
     (c.requires.way.between k there)) in
     added_as c.push_way.result None (Some c.args.window.now) c.morton.result (morton_of c.args.end)
-    _ _ c.args.bricks.now c.push_way.new.bricks (all ∙ sym c.new.ensures.computed)
+    _ _ c.args.bricks.now c.push_way.new.bricks (all ∙ sym c.between.ensures.computed)
     c.morton.ensures.exact c.push_way.ensures
 
 pub returns-then-is_passed_by : goal.returns-then-is_passed_by

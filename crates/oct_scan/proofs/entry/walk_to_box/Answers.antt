@@ -3,7 +3,7 @@ use Rattle.oct_scan.proofs.entry.walk_to_box.Goals as goal
 
 pub returns-then-holds : goal.returns-then-holds
 returns-then-holds c =
-    whole_way c.args.window.now c.args.start c.args.end _ _ c.new.ensures.computed c.requires.way
+    whole_way c.args.window.now c.args.start c.args.end _ _ c.between.ensures.computed c.requires.way
 
 pub returns-then-is_before : goal.returns-then-is_before
 returns-then-is_before c =
@@ -12,4 +12,4 @@ returns-then-is_before c =
 
 pub returns-else-is_before : goal.returns-else-is_before
 returns-else-is_before c =
-    whole_way c.args.window.now c.args.start c.args.end _ _ c.new-else-is_before.ensures.computed c.requires.way
+    whole_way c.args.window.now c.args.start c.args.end _ _ c.between-else-is_before.ensures.computed c.requires.way

@@ -1,4 +1,4 @@
-use Rattle.std.proofs.Common.{refl, arith, rules}
+use Rattle.std.proofs.Common.{refl, arith}
 use Rattle.std.proofs.lemmas.List.Sorted.{All-permutation, IsNonDecreasingBy-from_sort}
 use Rattle.oct_scan.specs.Order.{IsCoded}
 use Rattle.oct_scan.proofs.Ordered.{first_more, coded_more, keys_moved}
@@ -9,10 +9,9 @@ loop-place-preserved c = record {
   first = first_more c.args.beams.now c.loop-place.place _ _ c.loop-place.keys.items
       c.push.new.self.items c.requires.few c.loop-place-test.true refl c.in_ok-push.ensures.items
       c.loop-place.invariant.first;
-  coded = coded_more c.args.res c.args.beams.now c.loop-place.place c.morton.result _ _
-      c.key_of.result c.unwrap-end.result c.loop-place.keys.items c.push.new.self.items
-      c.requires.few c.loop-place-test.true c.key_of.ensures.exact (search rules) c.morton.ensures.exact refl c.in_ok-push.ensures.items
-      c.loop-place.invariant.coded;
+  coded = coded_more c.args.beams.now c.loop-place.place c.morton.result _ _
+      c.loop-place.keys.items c.push.new.self.items c.requires.few c.loop-place-test.true
+      c.morton.ensures.exact refl c.in_ok-push.ensures.items c.loop-place.invariant.coded;
 }
 
 pub returns-clause-keys : goal.returns-clause-keys
@@ -24,7 +23,7 @@ returns-clause-keys c =
 
 pub returns-clause-coded : goal.returns-clause-coded
 returns-clause-coded c =
-    All-permutation (IsCoded c.args.res c.args.beams.now) c.loop-place.keys.items
+    All-permutation (IsCoded c.args.beams.now) c.loop-place.keys.items
     c.sort_unstable.new.self.items c.sort_unstable.ensures.permutation
     c.loop-place.invariant.coded
 

@@ -6,5 +6,5 @@ use Rattle.oct_scan.proofs.order.sorted_keys.Given as goal
 abbrev pub invariant-loop-place : goal.invariant-loop-place
 invariant-loop-place l = record {
   first : AreFirst l.beams l.place l.keys.items;
-  coded : All (IsCoded l.res l.beams) l.keys.items;
+  coded : All (IsCoded l.beams) l.keys.items;
 }
