@@ -3,7 +3,7 @@
 use oct_io::{FailingSink, KeptList, MemorySink, Sink, SinkFault};
 use oct_key::{Key, Res, Window};
 use oct_odds::OddsModel;
-use oct_snap::{SnapFault, check, fill, write};
+use oct_snap::{SnapFault, check, encoded_len, fill, write};
 use oct_tree::OccTree;
 use std::alloc::{AllocError, Global};
 use std::process::Abort;
@@ -110,11 +110,12 @@ fn reads_what_it_writes(rt: HostRuntime) -> Result<(), Fail> {
     Ok(())
 }
 
-/// The tree of a snapshot that needs no groups.
-fn filled(rt: &impl Abort, alloc: Global, bytes: &[u8]) -> Result<OccTree, SnapFault> {
+/// The tree of a snapshot that needs one group at most.
+fn filled(rt: &impl Abort, alloc: Global, bytes: &[u8]) -> Result<OccTree, Fail> {
     let info = check(bytes, OddsModel::default())?;
-    assert!(rt; info.groups == 0);
+    assert!(rt; info.groups <= 1);
     let mut tree = OccTree::new(alloc, info.res, info.odds);
+    tree.reserve(1)?;
     fill(bytes, &mut tree);
     Ok(tree)
 }
@@ -137,6 +138,27 @@ const WHOLE: [u8; 21] = [
     0x4F, 0x43, 0x54, 0x53, 0x4E, 0x41, 0x50, 0x31, 0x00, 0x00, 0x00, 0x00, 0x05, 0xF5, 0xE1, 0x00,
     0x01, 0x00, 0x00, 0x03, 0x52,
 ];
+
+/// The snapshot of version 1 of a map whose first eighth alone is known, with the value 850.
+const EIGHTH: [u8; 29] = [
+    0x4F, 0x43, 0x54, 0x53, 0x4E, 0x41, 0x50, 0x31, 0x00, 0x00, 0x00, 0x00, 0x05, 0xF5, 0xE1, 0x00,
+    0x02, 0x01, 0x00, 0x00, 0x03, 0x52, 0x00, 0x00, 0x00, 0x00, 0x00, 0x00, 0x00,
+];
+
+/// Expects how long the snapshot of a tree is without a box, and with one.
+fn expect_lengths(rt: &impl Abort, tree: &OccTree, plain: u64, boxed: u64) {
+    assert_eq!(rt; encoded_len(tree, None), plain);
+    assert_eq!(rt; encoded_len(tree, window()), boxed);
+}
+
+#[test]
+fn tells_the_length_beforehand(rt: HostRuntime) -> Result<(), Fail> {
+    // Magic, resolution, log-odds and the byte that tells of a box: 8 + 8 + 20 + 1, and a box 12.
+    expect_lengths(&rt, &unknown(rt.alloc())?, 37 + 1, 49 + 1);
+    expect_lengths(&rt, &filled(&rt, rt.alloc(), &WHOLE)?, 37 + 5, 49 + 5);
+    expect_lengths(&rt, &filled(&rt, rt.alloc(), &EIGHTH)?, 37 + 13, 49 + 13);
+    Ok(())
+}
 
 /// Expects why these bytes are no snapshot, where they aren't.
 fn expect_fault(rt: &impl Abort, bytes: &[u8], want: Option<SnapFault>) {

@@ -9,12 +9,12 @@ use Rattle.oct_snap.specs.Checked.{IsChecked}
 use Rattle.oct_snap.proofs.Again.{read_again}
 use Rattle.oct_file_tests.proofs.snapshots.filled.Goals as goal
 
--- a snapshot that was checked, and needs no groups
+-- a snapshot that was checked, and for whose groups there is room
 asked : (o p : Odds) (bytes : List ℕ) (info : SnapInfo) (room : ℕ)
-    → IsChecked (read_snapshot o bytes) (Ok info) → p ≡ odds_of info.odds → info.groups ≡ 0
+    → IsChecked (read_snapshot o bytes) (Ok info) → p ≡ odds_of info.odds → info.groups ≤ room
     → (s : Snapshot) × (read_snapshot p bytes ≡ Ok s) × (s.head.odds ≡ p)
     × (group_total s.nodes ≤ room)
-asked o p bytes info room checked odds none = by (read_snapshot o bytes) refl checked
+asked o p bytes info room checked odds few = by (read_snapshot o bytes) refl checked
   where
     by : (r : Result Snapshot SnapFault) → read_snapshot o bytes ≡ r → IsChecked r (Ok info)
         → (s : Snapshot) × (read_snapshot p bytes ≡ Ok s) × (s.head.odds ≡ p)
@@ -25,11 +25,12 @@ asked o p bytes info room checked odds none = by (read_snapshot o bytes) refl ch
           s,
           ap (λ (q : Odds). read_snapshot q bytes) (sym same) ∙ read_again o bytes s is,
           same,
-          omega (arith, groups, none),
+          omega (arith, groups, few),
         )
     by (Err fault) is i = absurd i
 
 pub fill-requires-clause-accepted : goal.fill-requires-clause-accepted
 fill-requires-clause-accepted g c =
-    asked (odds_of c.default.result) c.new-tree.result.odds c.args.bytes.now c.in_ok-info.info _
-    c.in_ok-info.ensures (ap (λ (t : Tree). t.odds) c.new-tree.ensures.exact) (search rules)
+    asked (odds_of c.default.result) _ c.args.bytes.now c.in_ok-info.info _ c.in_ok-info.ensures
+    (c.reserve.ensures.kept.odds ∙ ap (λ (t : Tree). t.odds) c.new-tree.ensures.exact)
+    (search rules)
