@@ -1,5 +1,5 @@
 -- Which leaves meet a box.
-use Rattle.std.proofs.Common.{◌≡◌, ◌-◌, ◌≤◌, ◌↔◌, Bool, true, false}
+use Rattle.std.proofs.Common.{◌≡◌, ◌-◌, ◌↔◌, Bool, true, false}
 use Rattle.std.proofs.Common.{List, [], ◌∷◌, Some, None, refl, sym, ◌∙◌, ap, arith}
 use Rattle.std.specs.Prelude.{filter, if◌then◌else◌, int_lt, IsTrue, ℤ, ◌≤ℤ◌}
 use Rattle.std.specs.List.{AllByRecursion}
