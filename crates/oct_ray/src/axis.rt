@@ -26,8 +26,8 @@ pub struct Axis {
 }
 
 impl Axis {
-    /// The axis of a segment from `o` to `e`, coordinates of the map in nanometres, which the voxels
-    /// of these two numbers hold.
+    /// The axis of a segment from `o` to `e`, coordinates of the map in nanometres, which voxels of
+    /// these two numbers hold.
     pub fn new(edge: u64, o: i64, e: i64, first: u16, last: u16) -> Axis
         requires edge { IsResolution edge }
         requires first { HoldsOnAxis edge first o }

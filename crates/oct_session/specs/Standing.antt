@@ -297,7 +297,7 @@ HaltsHeld {F} o a b s lines short status = (first : F) (files : Option Files)
     → IsHeldAt o files w a.written (a.desk first) s bytes → IsKnown (progress o files (lines bytes))
     → IsHalted o files (lines bytes) w b.written (b.desk first) short status
 
--- the session stands before its first line: no byte was read, no block is open, and there is no reply
+-- the session stands before its first line: no byte was read, no block is open, there is no reply
 pub record IsFresh (session : Session) : Type 0 where
   pub line : session.line ≡ unread
   pub block : session.block ≡ None
