@@ -2,8 +2,8 @@
 # Measures maps that several threads make in C++ (octofix::mapper) of scans in a hall and of a lidar
 # in a street, at 0.05 m: the processor's time of the longest thread, be it the one that shares the
 # scans out, and of the merges that wait for each other, against that of one map. Fails where a map
-# is another one, or where 4 threads aren't 2.8 times as fast, or 8 threads 4 times. Such times are
-# about the same on a busy machine.
+# is another one, or where 4 threads aren't 2.8 times as fast, or 8 threads 4 times. Such times may
+# differ by half from run to run, so look at several.
 #
 #     bench/cores.sh FOLDER [THREADS..]
 #
