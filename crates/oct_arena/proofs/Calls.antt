@@ -9,71 +9,77 @@ use Rattle.oct_arena.specs.declared.node.Node.{Node}
 use Rattle.oct_arena.specs.declared.node.Node.TheVariants.{Inner}
 use Rattle.oct_arena.specs.declared.node.GroupId.{GroupId}
 use Rattle.oct_arena.specs.Entries.{Groups, IsArena, IsLive, entry, with_node, spare, live, vacant}
-use Rattle.oct_arena.specs.Free.{next, chain, IsThreaded}
-use Rattle.oct_arena.specs.Chunks.{IsNewChunk}
+use Rattle.oct_arena.specs.Free.{next, IsThreaded}
 use Rattle.oct_arena.proofs.Entries.{live_within, live_spare, spare_filled, spare_vacated}
 use Rattle.oct_arena.proofs.Entries.{spare_changed, spare_grown, live_grown, length_grown}
-use Rattle.oct_arena.proofs.FreeLists.{entries, spare_is, length_is, is_arena, live_apart, taken}
-use Rattle.oct_arena.proofs.FreeLists.{changed, given, new_tail}
-use Rattle.oct_arena.proofs.Growth.{grown_first, grown_more, end_within}
+use Rattle.oct_arena.proofs.FreeLists.{entries, spare_is, length_is, is_arena, live_in, taken}
+use Rattle.oct_arena.proofs.FreeLists.{begun, changed, given}
+use Rattle.oct_arena.proofs.Growth.{grown}
 
-module _ (m : Groups) (h t k : ℕ) (es : Groups) (w : IsThreaded m h t k) (view : entries m h k ≡ es)
+module _ (m : Groups) (h k n : ℕ) (es : Groups) (w : IsThreaded m h k n) (view : entries m h k ≡ es)
   where
-    pub counts : k ≡ spare es
-    counts = sym (spare_is m h t k w) ∙ ap spare view
-
     pub lengths : length m ≡ length es
-    lengths = sym (length_is m h t k w) ∙ ap length view
+    lengths = sym (length_is m h k n w) ∙ ap length view
 
     pub arena : IsArena es
-    arena = subst IsArena view (is_arena m h t k w)
+    arena = subst IsArena view (is_arena m h k n w)
+
+    -- as many are vacant as were given back or never taken
+    pub counts : length m - n + k ≡ spare es
+    counts =
+        let e : spare es + n ≡ length m + k = sym (ap (λ gs. spare gs + n) view) ∙ spare_is m h k n w in
+        let l = w.within in omega arith
 
     -- as many groups as entries that aren't vacant
-    pub lives : length m - k ≡ live es
-    lives = omega (arith, counts, lengths, live_spare es)
+    both : live es + k ≡ n
+    both = (let l = w.within in omega (arith, counts, lengths, live_spare es, l))
 
-    pub few : k ≤ length m
-    few = omega (arith, counts, lengths, live_spare es)
+    pub few : k ≤ n
+    few = omega (arith, both)
+
+    pub lives : n - k ≡ live es
+    lives = omega (arith, both)
 
     -- what stands under a live id is in memory
-    pub within : (i : ℕ) → IsLive es i → i < length m
-    within i l = (let a = live_within es i l in let b = lengths in omega arith)
+    pub there : (i : ℕ) → IsLive es i → IsLive m i
+    there i l = (live_in m h k n w i (subst (λ gs. IsLive gs i) (sym view) l)).2
 
     pub in_memory : (i : ℕ) → IsLive es i → entry es i ≡ entry m i
     in_memory i l =
         ap (λ gs. entry gs i) (sym view)
-        ∙ (live_apart m (chain k h m) i (subst (λ gs. IsLive gs i) (sym view) l)).1
+        ∙ (live_in m h k n w i (subst (λ gs. IsLive gs i) (sym view) l)).1
 
-    pub tail_within : 1 ≤ k → t < length m
-    tail_within l =
-        let e : k ≡ suc (k - 1) = omega arith in let w' = subst (λ j. IsThreaded m h t j) e w in
-        end_within m h t (k - 1) (length m) w'.once w'.ends
+    -- some entry was never taken, where one is vacant and none was given back
+    pub more : k ≡ 0 → 1 ≤ spare es → n < length m
+    more none l = omega (arith, counts, none, l)
 
-    -- the head of the list is taken
-    pub some_vacant : 1 ≤ spare es → (1 ≤ k) × (h < length m)
-    some_vacant l =
-        let one : 1 ≤ k = omega (arith, counts) in let e : k ≡ suc (k - 1) = omega arith in
-        (one, (subst (λ j. IsThreaded m h t j) e w).once.0)
+    -- the first entry that was given back
+    module _ (some : 1 ≤ k) where
+      last : IsThreaded m h (suc (k - 1)) n
+      last = (let e : k ≡ suc (k - 1) = omega arith in subst (λ j. IsThreaded m h j n) e w)
 
-    pub record Took (h2 : ℕ) (g : Group) (m2 : Groups) : Type 0 where
-      pub threaded : IsThreaded m2 h2 t (k - 1)
-      pub filled : entries m2 h2 (k - 1) ≡ slice_set es h (Some g)
-      pub inside : h < length es
-      pub vacant : entry es h ≡ None
-      pub spares : spare (slice_set es h (Some g)) + 1 ≡ spare es
+      pub head_there : IsLive m h
+      head_there = w.full h last.once.0
 
-    pub took : (h2 : ℕ) (g : Group) (m2 : Groups) → 1 ≤ spare es → length g.nodes ≡ 8
-        → h2 ≡ next m h
-        → m2 ≡ slice_set m h (Some g) → Took h2 g m2
-    took h2 g m2 l eight head memory =
-        let one = (some_vacant l).0 in let e : k ≡ suc (k - 1) = omega arith in
+    -- an entry gets a group
+    pub record Took (i h2 k2 n2 : ℕ) (g : Group) (m2 : Groups) : Type 0 where
+      pub threaded : IsThreaded m2 h2 k2 n2
+      pub filled : entries m2 h2 k2 ≡ slice_set es i (Some g)
+      pub inside : i < length es
+      pub vacant : entry es i ≡ None
+      pub spares : spare (slice_set es i (Some g)) + 1 ≡ spare es
+
+    pub took_last : (h2 : ℕ) (g : Group) (m2 : Groups) → 1 ≤ k → length g.nodes ≡ 8 → h2 ≡ next m h
+        → m2 ≡ slice_set m h (Some g) → Took h h2 (k - 1) n g m2
+    took_last h2 g m2 some eight head memory =
+        let e : k ≡ suc (k - 1) = omega arith in
         let was : entries m h (suc (k - 1)) ≡ es = ap (entries m h) (sym e) ∙ view in
-        let r = taken m h t (k - 1) g (subst (λ j. IsThreaded m h t j) e w) eight in
-        let inside : h < length es = (let a = r.within in let b = lengths in omega arith) in
+        let r = taken m h (k - 1) n g (last some) eight in
+        let inside : h < length es = omega (arith, r.below, lengths, w.within) in
         let vacant : entry es h ≡ None = ap (λ gs. entry gs h) (sym was) ∙ r.vacant in
         record {
           threaded =
-              subst (λ (p : ℕ × Groups). IsThreaded p.1 p.0 t (k - 1))
+              subst (λ (p : ℕ × Groups). IsThreaded p.1 p.0 (k - 1) n)
               (λ i. (sym head i, sym memory i)) r.threaded;
           filled =
               ap (λ (p : ℕ × Groups). entries p.1 p.0 (k - 1)) (λ i. (head i, memory i)) ∙ r.filled
@@ -83,22 +89,42 @@ module _ (m : Groups) (h t k : ℕ) (es : Groups) (w : IsThreaded m h t k) (view
           spares = spare_filled es h g inside vacant;
         }
 
+    pub took_new : (n2 : ℕ) (g : Group) (m2 : Groups) → k ≡ 0 → 1 ≤ spare es → length g.nodes ≡ 8
+        → n2 ≡ suc n → m2 ≡ slice_set m n (Some g) → Took n h k n2 g m2
+    took_new n2 g m2 none some eight number memory =
+        let l = more none some in
+        let all : entries m h k ≡ m = ap (λ j. entries m h j) none in
+        let inside : n < length es = omega (arith, l, lengths) in
+        let vacant : entry es n ≡ None =
+        ap (λ gs. entry gs n) (sym view ∙ all) ∙ w.empty n (omega arith) in
+        let r = begun m h n g (subst (λ j. IsThreaded m h j n) none w) l eight in
+        record {
+          threaded =
+              subst (λ (p : Groups × ℕ × ℕ). IsThreaded p.0 h p.1 p.2)
+              (λ i. (sym memory i, sym none i, sym number i)) r;
+          filled =
+              ap (λ (p : Groups × ℕ). entries p.0 h p.1) (λ i. (memory i, none i))
+              ∙ ap (λ gs. slice_set gs n (Some g)) (sym all ∙ view);
+          inside = inside;
+          vacant = vacant;
+          spares = spare_filled es n g inside vacant;
+        }
+
     -- a live entry is given back
-    pub record Gave (i t2 : ℕ) (m2 : Groups) : Type 0 where
-      pub threaded : IsThreaded m2 i t2 (k + 1)
+    pub record Gave (i : ℕ) (m2 : Groups) : Type 0 where
+      pub threaded : IsThreaded m2 i (k + 1) n
       pub vacated : entries m2 i (k + 1) ≡ slice_set es i None
       pub spares : spare (slice_set es i None) ≡ spare es + 1
 
-    pub gave : (i t2 : ℕ) (id : GroupId) (v : ℤ) (m2 : Groups) → IsLive es i → id.number ≡ h
-        → m2 ≡ slice_set m i (with_node (entry m i) 0 (Inner v id)) → t2 ≡ new_tail k i t
-        → Gave i t2 m2
-    gave i t2 id v m2 l e memory tail =
+    pub gave : (i : ℕ) (id : GroupId) (v : ℤ) (m2 : Groups) → IsLive es i → id.number ≡ h
+        → m2 ≡ slice_set m i (with_node (entry m i) 0 (Inner v id)) → Gave i m2
+    gave i id v m2 l e memory =
         let more : suc k ≡ k + 1 = omega arith in
-        let r = given m h t k i id v w (subst (λ gs. IsLive gs i) (sym view) l) e in
+        let r = given m h k n i id v w (subst (λ gs. IsLive gs i) (sym view) l) e in
         record {
           threaded =
-              subst (λ (p : Groups × ℕ × ℕ). IsThreaded p.0 i p.1 p.2)
-              (λ j. (sym memory j, sym tail j, more j)) r.0;
+              subst (λ (p : Groups × ℕ). IsThreaded p.0 i p.1 n)
+              (λ j. (sym memory j, more j)) r.0;
           vacated =
               ap (λ (p : Groups × ℕ). entries p.0 i p.1) (λ j. (memory j, sym more j)) ∙ r.1
               ∙ ap (λ gs. slice_set gs i None) view;
@@ -106,54 +132,30 @@ module _ (m : Groups) (h t k : ℕ) (es : Groups) (w : IsThreaded m h t k) (view
         }
 
     -- a node of a live entry changes
-    pub record Changed (i j : ℕ) (n : Node) (m2 : Groups) : Type 0 where
-      pub threaded : IsThreaded m2 h t k
-      pub changed : entries m2 h k ≡ slice_set es i (with_node (entry es i) j n)
-      pub spares : spare (slice_set es i (with_node (entry es i) j n)) ≡ spare es
+    pub record Changed (i j : ℕ) (node : Node) (m2 : Groups) : Type 0 where
+      pub threaded : IsThreaded m2 h k n
+      pub changed : entries m2 h k ≡ slice_set es i (with_node (entry es i) j node)
+      pub spares : spare (slice_set es i (with_node (entry es i) j node)) ≡ spare es
 
-    pub has_changed : (i j : ℕ) (n : Node) (m2 : Groups) → IsLive es i
-        → m2 ≡ slice_set m i (with_node (entry m i) j n) → Changed i j n m2
-    has_changed i j n m2 l memory =
-        let r = changed m h t k i j n w (subst (λ gs. IsLive gs i) (sym view) l) in
+    pub has_changed : (i j : ℕ) (node : Node) (m2 : Groups) → IsLive es i
+        → m2 ≡ slice_set m i (with_node (entry m i) j node) → Changed i j node m2
+    has_changed i j node m2 l memory =
+        let r = changed m h k n i j node w (subst (λ gs. IsLive gs i) (sym view) l) in
         record {
-          threaded = subst (λ gs. IsThreaded gs h t k) (sym memory) r.0;
+          threaded = subst (λ gs. IsThreaded gs h k n) (sym memory) r.0;
           changed =
               ap (λ gs. entries gs h k) memory ∙ r.1
-              ∙ ap (λ gs. slice_set gs i (with_node (entry gs i) j n)) view;
-          spares = spare_changed es i j n (live_within es i l);
+              ∙ ap (λ gs. slice_set gs i (with_node (entry gs i) j node)) view;
+          spares = spare_changed es i j node (live_within es i l);
         }
 
     -- a chunk is added
-    abbrev pub Grown : ℕ → ℕ → ℕ → Groups → Type 0
-    Grown h2 t2 k2 m2 = IsThreaded m2 h2 t2 k2 × (entries m2 h2 k2 ≡ es ++ vacant 1024)
-
-    pub grew_first : (gs : Groups) (h2 t2 : ℕ) (m1 : Groups) → k ≡ 0 → m1 ≡ m ++ gs
-        → IsNewChunk (length m) gs → length m + 1024 ≤ 2 ^ 31 + 1023 → h2 ≡ length m
-        → t2 ≡ length m + 1023 → Grown h2 t2 (k + 1024) m1
-    grew_first gs h2 t2 m1 none memory fresh room head tail =
-        let r = grown_first m gs h t (subst (λ j. IsThreaded m h t j) none w) fresh room in
-        let count : 1024 ≡ k + 1024 = omega arith in (
-          subst (λ (p : Groups × ℕ × ℕ × ℕ). IsThreaded p.0 p.1 p.2 p.3)
-              (λ j. (sym memory j, sym head j, sym tail j, count j)) r.0,
-          ap (λ (p : Groups × ℕ × ℕ). entries p.0 p.1 p.2) (λ j. (memory j, head j, sym count j))
-              ∙ r.1 ∙ ap (λ es. es ++ vacant 1024) (ap (entries m h) (sym none) ∙ view),
-        )
-
-    pub grew_more : (gs : Groups) (t2 : ℕ) (id : GroupId) (v : ℤ) (m1 m2 : Groups) → 1 ≤ k
-        → m1 ≡ m ++ gs → m2 ≡ slice_set m1 t (with_node (entry m1 t) 0 (Inner v id))
-        → IsNewChunk (length m) gs → length m + 1024 ≤ 2 ^ 31 + 1023
-        → id.number ≡ length m → t2 ≡ length m + 1023 → Grown h t2 (k + 1024) m2
-    grew_more gs t2 id v m1 m2 one memory memory2 fresh room start tail =
-        let e : k ≡ suc (k - 1) = omega arith in
-        let r =
-        grown_more m gs h t (k - 1) id v (subst (λ j. IsThreaded m h t j) e w) fresh room start in
-        let count : suc (k - 1 + 1024) ≡ k + 1024 = omega arith in
-        let is : m2 ≡ slice_set (m ++ gs) t (with_node (entry (m ++ gs) t) 0 (Inner v id)) =
-        memory2 ∙ ap (λ gs. slice_set gs t (with_node (entry gs t) 0 (Inner v id))) memory in (
-          subst (λ (p : Groups × ℕ × ℕ). IsThreaded p.0 h p.1 p.2)
-              (λ j. (sym is j, sym tail j, count j)) r.0,
-          ap (λ (p : Groups × ℕ). entries p.0 h p.1) (λ j. (is j, sym count j)) ∙ r.1
-              ∙ ap (λ es. es ++ vacant 1024) (ap (entries m h) (sym e) ∙ view),
+    pub grew : (m2 : Groups) → m2 ≡ m ++ vacant 1024 → length m + 1024 ≤ 2 ^ 31 + 1023
+        → IsThreaded m2 h k n × (entries m2 h k ≡ es ++ vacant 1024)
+    grew m2 memory room =
+        let r = grown m h k n w room in (
+          subst (λ gs. IsThreaded gs h k n) (sym memory) r.0,
+          ap (λ gs. entries gs h k) memory ∙ r.1 ∙ ap (λ gs. gs ++ vacant 1024) view,
         )
 
 -- entries that are appended until n are vacant
@@ -206,12 +208,3 @@ reserving_more n old new after r l e =
       },
       omega arith,
     )
-
--- the last entry, once one more is in front
-pub tail_first : (k i t r : ℕ) → k ≡ 0 → r ≡ i → r ≡ new_tail k i t
-tail_first zero i t r none e = e
-tail_first (suc k) i t r none e = absurd (omega arith)
-
-pub tail_kept : (k i t r : ℕ) → k ≢ 0 → r ≡ t → r ≡ new_tail k i t
-tail_kept zero i t r some e = absurd (some refl)
-tail_kept (suc k) i t r some e = e

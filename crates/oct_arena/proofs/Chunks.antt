@@ -1,4 +1,4 @@
--- Chunks: what has been written of a new one, and many of them as one list.
+-- Chunks: what stands in one, and many of them as one list.
 use Rattle.std.proofs.Common.{◌≡◌, ℕ, zero, suc, ◌+◌, ◌-◌, ◌*◌, ◌/◌, ◌%◌, ◌<◌, ◌≤◌, List, [], ◌∷◌}
 use Rattle.std.proofs.Common.{◌++◌, length, get_or, set, refl, sym, ◌∙◌, ap, arith, inl, inr}
 use Rattle.std.proofs.Common.{append_assoc, append-nil, length-append, Some, None, Option}
@@ -11,58 +11,16 @@ use Rattle.std.proofs.Math.Seq.{get_or-append_right}
 use Rattle.std.proofs.lemmas.List.{set-append_right}
 use Rattle.oct_cells.specs.Cells.{HasValue}
 use Rattle.oct_arena.specs.declared.node.Group.{Group}
-use Rattle.oct_arena.specs.Entries.{Groups, entry, node_of}
-use Rattle.oct_arena.specs.Free.{IsFull, linked_number}
-use Rattle.oct_arena.specs.Chunks.{IsLink, IsNewChunk, joined, AllFull}
+use Rattle.oct_arena.specs.Entries.{Groups, IsLive, entry}
+use Rattle.oct_arena.specs.Chunks.{joined, AllFull}
 
 some_value : (e : Option Group) → is_some e ≡ true → (g : Group) × (e ≡ Some g)
 some_value None h = absurd (false≢true h)
 some_value (Some g) h = (g, refl)
 
--- where all cells have values, each has one
-pub has_value : (gs : Groups) (i : ℕ) → IsFull gs → i < length gs → HasValue gs i
-has_value gs i full l = some_value (entry gs i) (full i l)
-
--- the first i cells of a new chunk are written
-pub record IsBegun (first i : ℕ) (gs : Groups) : Type 0 where
-  pub many : length gs ≡ 1024
-  pub links : (j : ℕ) → j < i → IsLink (first + suc j) (entry gs j)
-  pub empty : (j : ℕ) → i ≤ j → j < 1024 → entry gs j ≡ None
-
-pub begun_none : (first : ℕ) (gs : Groups) → gs ≡ replicate 1024 None → IsBegun first 0 gs
-begun_none first gs e = record {
-  many = ap length e ∙ length-replicate {A = Option Group} 1024 None;
-  links = λ j l. absurd (omega arith);
-  empty = λ j a l. ap (λ xs. entry xs j) e ∙ get_or-replicate {A = Option Group} 1024 j None None l;
-}
-
-pub begun_more : (first i number : ℕ) (gs after : Groups) (g : Group) → IsBegun first i gs
-    → i < 1024 → number ≡ first + suc i
-    → linked_number (node_of (Some g) 0) ≡ number → length g.nodes ≡ 8
-    → after ≡ slice_set gs i (Some g) → IsBegun first (suc i) after
-begun_more first i number gs after g b l n link eight h =
-    let e = Some g in
-    let at : entry after i ≡ e =
-    ap (λ xs. entry xs i) h ∙ get_or-set_same gs i e None (let m = b.many in omega arith) in
-    record {
-      many = ap length h ∙ length-set gs i e ∙ b.many;
-      links = λ j a. elim (cases_eq j i) [
-        | inl same ↦ (let here : entry after j ≡ e = ap (entry after) same ∙ at in
-            (g, here, eight, link ∙ n ∙ ap (λ k. first + suc k) (sym same)))
-        | inr other ↦ (let was = b.links j (omega arith) in (
-          was.0,
-          ap (λ xs. entry xs j) h ∙ get_or-set_other gs i j e None other ∙ was.1,
-          was.2,
-          was.3,
-        ))
-      ];
-      empty =
-          λ j a c. ap (λ xs. entry xs j) h ∙ get_or-set_other gs i j e None (λ p. omega arith)
-          ∙ b.empty j (omega arith) c;
-    }
-
-pub fresh_full : (first : ℕ) (gs : Groups) → IsNewChunk first gs → IsFull gs
-fresh_full first gs f i l = (let e = f.links i (let n = f.many in omega arith) in ap is_some e.1)
+-- a cell that is live has a value
+pub has_value : (gs : Groups) (i : ℕ) → IsLive gs i → HasValue gs i
+has_value gs i live = some_value (entry gs i) live
 
 -- many chunks as one list, by the chunk c and the place s in it
 pub length_joined : (cs : List Groups) → AllFull cs → length (joined cs) ≡ 1024 * length cs
@@ -132,6 +90,9 @@ module _ (cs : List Groups) (gs : Groups) (i : ℕ) (full : AllFull cs) (view : 
         sym (entry_joined cs i (i / 1024) (i % 1024) k full (omega arith) (omega arith)
         chunk_within is)
         ∙ ap (λ xs. entry xs i) view
+
+    pub live_place : IsLive gs i → IsLive k (i % 1024)
+    live_place live = ap is_some read_place ∙ live
 
     module _ (after : Groups) (x : Option Group) (e : after ≡ slice_set k (i % 1024) x) where
       pub written_full : AllFull (set cs (i / 1024) after)

@@ -1,19 +1,20 @@
 -- What the arena's calls do to the free list and to the entries, over plain memory.
-use Rattle.std.proofs.Common.{◌≡◌, ◌≢◌, ℕ, zero, suc, ◌+◌, ◌<◌, List, [], ◌∷◌, length, set, refl}
+use Rattle.std.proofs.Common.{◌≡◌, ◌≢◌, ℕ, zero, suc, ◌+◌, ◌<◌, ◌≤◌, List, [], ◌∷◌, length, set, refl}
 use Rattle.std.proofs.Common.{sym, subst, ◌∙◌, ap, arith, inl, inr, Some, None, Option, true, cond}
 use Rattle.std.proofs.Common.{ℤ}
 use Rattle.std.specs.Prelude.{slice_set, is_some, is_none}
 use Rattle.std.proofs.lemmas.List.{get_or_past, length-set, set-set}
 use Rattle.std.proofs.lemmas.List.Sums.{sum_by-cons}
 use Rattle.std.proofs.lemmas.Bool.{cases_lt, cases_eq, false≢true}
+use Rattle.std.proofs.lemmas.Option.{none-some}
 use Rattle.oct_arena.specs.declared.node.Group.{Group}
 use Rattle.oct_arena.specs.declared.node.Node.{Node}
 use Rattle.oct_arena.specs.declared.node.Node.TheVariants.{Inner}
 use Rattle.oct_arena.specs.declared.node.GroupId.{GroupId}
 use Rattle.oct_arena.specs.Entries.{Groups, IsArena, IsLive, entry, node_of, with_node, spare}
-use Rattle.oct_arena.specs.Free.{IsFull, linked_number, next, chain, without, IsNotIn, AreOnce}
-use Rattle.oct_arena.specs.Free.{EndsAt, IsThreaded}
-use Rattle.oct_arena.proofs.Entries.{entry_set_same, entry_set_other, live_within, spare_vacated}
+use Rattle.oct_arena.specs.Free.{linked_number, next, chain, without, IsNotIn, AreOnce}
+use Rattle.oct_arena.specs.Free.{IsThreaded}
+use Rattle.oct_arena.proofs.Entries.{entry_set_same, entry_set_other, spare_vacated}
 use Rattle.oct_arena.proofs.Entries.{arena_filled, arena_vacated, arena_changed, node_with_same}
 
 set_swap : {X : Type 0} (xs : List X) (i j : ℕ) (a b : X) → i ≢ j
@@ -78,48 +79,75 @@ chain_set (suc k) h m i e n =
     ap (λ p. h ∷ chain k p (slice_set m i e)) (next_other m i h e (λ p. n.0 (sym p)))
     ∙ ap (λ is. h ∷ is) (chain_set k (next m h) m i e n.1)
 
--- memory that is full has no vacant entry, and without some entries it has as many
-full_rest : (e : Option Group) (m : Groups) → IsFull (e ∷ m) → IsFull m
-full_rest e m full = λ i l. full (suc i) (omega arith)
-
-spare_full : (m : Groups) → IsFull m → spare m ≡ 0
-spare_full [] full = refl
-spare_full (None ∷ m) full = absurd (false≢true (full 0 (omega arith)))
-spare_full (Some g ∷ m) full =
+-- a front of the memory has groups, and nothing else: the rest is vacant, and without some entries
+-- of the front as many more
+spare_front : (m : Groups) (n : ℕ) → n ≤ length m → ((i : ℕ) → i < n → IsLive m i)
+    → ((i : ℕ) → n ≤ i → entry m i ≡ None)
+    → spare m + n ≡ length m
+spare_front [] n l full empty = (let none : n ≡ 0 = omega arith in ap (λ k. 0 + k) none)
+spare_front (None ∷ m) zero l full empty =
+    let c : spare (None ∷ m) ≡ 1 + spare m =
+    sum_by-cons (λ (x : Option Group). cond (is_none x) 1 0) None m in
+    let h =
+    spare_front m zero (omega arith) (λ i a. absurd (omega arith))
+    (λ i a. empty (suc i) (omega arith)) in
+    omega (arith, c, h)
+spare_front (Some g ∷ m) zero l full empty = absurd (none-some g (sym (empty 0 (omega arith))))
+spare_front (None ∷ m) (suc n) l full empty = absurd (false≢true (full 0 (omega arith)))
+spare_front (Some g ∷ m) (suc n) l full empty =
     let c : spare (Some g ∷ m) ≡ 0 + spare m =
     sum_by-cons (λ (x : Option Group). cond (is_none x) 1 0) (Some g) m in
-    let h = spare_full m (full_rest (Some g) m full) in
+    let h =
+    spare_front m n (omega arith) (λ i a. full (suc i) (omega arith))
+    (λ i a. empty (suc i) (omega arith)) in
     omega (arith, c, h)
 
-spare_without : (m : Groups) (is : List ℕ) → IsFull m → AreOnce is (length m)
-    → spare (without m is) ≡ length is
-spare_without m [] full once = spare_full m full
-spare_without m (i ∷ is) full once =
+spare_without : (m : Groups) (is : List ℕ) (n : ℕ) → ((i : ℕ) → i < n → IsLive m i) → AreOnce is n
+    → spare (without m is) ≡ spare m + length is
+spare_without m [] n full once = omega arith
+spare_without m (i ∷ is) n full once =
     let live : IsLive (without m is) i = ap is_some (entry_without m is i once.1) ∙ full i once.0 in
-    omega (arith, spare_vacated (without m is) i live, spare_without m is full once.2)
+    omega (arith, spare_vacated (without m is) i live, spare_without m is n full once.2)
 
 arena_without : (m : Groups) (is : List ℕ) → IsArena m → IsArena (without m is)
 arena_without m [] h = h
 arena_without m (i ∷ is) h = arena_vacated (without m is) i (arena_without m is h)
 
-pub full_set : (m : Groups) (i : ℕ) (e : Option Group) → IsFull m
-    → (i < length m → is_some e ≡ true) → IsFull (slice_set m i e)
-full_set m i e full some j l =
-    let within : j < length m = subst (λ n. j < n) (length-set m i e) l in
-    elim (cases_eq j i) [
-      | inl same ↦ (let at : i < length m = subst (λ n. n < length m) same within in
-          ap (λ n. is_some (entry (slice_set m i e) n)) same ∙ ap is_some (entry_set_same m i e at)
-          ∙ some at)
-      | inr other ↦ ap is_some (entry_set_other m i j e other) ∙ full j within
-    ]
+full_set : (m : Groups) (i n : ℕ) (e : Option Group) → n ≤ length m
+    → ((j : ℕ) → j < n → IsLive m j) → is_some e ≡ true
+    → (j : ℕ) → j < n → IsLive (slice_set m i e) j
+full_set m i n e few full some j l = elim (cases_eq j i) [
+  | inl same ↦ (let at : i < length m = omega arith in
+      ap (λ k. is_some (entry (slice_set m i e) k)) same ∙ ap is_some (entry_set_same m i e at)
+      ∙ some)
+  | inr other ↦ ap is_some (entry_set_other m i j e other) ∙ full j l
+]
+
+empty_set : (m : Groups) (i n : ℕ) (e : Option Group) → i < n
+    → ((j : ℕ) → n ≤ j → entry m j ≡ None)
+    → (j : ℕ) → n ≤ j → entry (slice_set m i e) j ≡ None
+empty_set m i n e l empty j a = entry_set_other m i j e (λ p. omega arith) ∙ empty j a
+
+-- what is live in memory was taken
+live_used : (m : Groups) (n i : ℕ) → ((j : ℕ) → n ≤ j → entry m j ≡ None) → IsLive m i → i < n
+live_used m n i empty live = elim (cases_lt i n) [
+  | inl l ↦ l
+  | inr past ↦ absurd (false≢true (sym (ap is_some (empty i past)) ∙ live))
+]
 
 -- the entries of an arena's memory
 abbrev pub entries : Groups → ℕ → ℕ → Groups
 entries m h k = without m (chain k h m)
 
-module _ (m : Groups) (h t k : ℕ) (w : IsThreaded m h t k) where
-  pub spare_is : spare (entries m h k) ≡ k
-  spare_is = spare_without m (chain k h m) w.full w.once ∙ length_chain k h m
+module _ (m : Groups) (h k n : ℕ) (w : IsThreaded m h k n) where
+  pub spare_is : spare (entries m h k) + n ≡ length m + k
+  spare_is =
+      omega (
+        arith,
+        spare_without m (chain k h m) n w.full w.once,
+        spare_front m n w.within w.full w.empty,
+        length_chain k h m,
+      )
 
   pub length_is : length (entries m h k) ≡ length m
   length_is = length_without m (chain k h m)
@@ -127,128 +155,132 @@ module _ (m : Groups) (h t k : ℕ) (w : IsThreaded m h t k) where
   pub is_arena : IsArena (entries m h k)
   is_arena = arena_without m (chain k h m) w.arena
 
--- what every change of a live entry's group leaves
-module _ (m : Groups) (h t k i : ℕ) (e : Option Group) (w : IsThreaded m h t k)
-    (free : IsNotIn i (chain k h m)) (some : i < length m → is_some e ≡ true)
+  -- a live entry is in memory, where it was taken
+  pub live_in : (i : ℕ) → IsLive (entries m h k) i
+      → IsNotIn i (chain k h m) × (entry (entries m h k) i ≡ entry m i) × IsLive m i × (i < n)
+  live_in i live =
+      let (free, same) = live_apart m (chain k h m) i live in
+      let there : IsLive m i = sym (ap is_some same) ∙ live in
+      (free, same, there, live_used m n i w.empty there)
+
+-- what every change of the group of an entry that was taken leaves
+module _ (m : Groups) (h k n i : ℕ) (e : Option Group) (w : IsThreaded m h k n)
+    (free : IsNotIn i (chain k h m)) (below : i < n) (some : is_some e ≡ true)
     (arena : IsArena (slice_set m i e)) where
   same_chain : chain k h (slice_set m i e) ≡ chain k h m
   same_chain = chain_set k h m i e free
 
-  pub threaded_set : IsThreaded (slice_set m i e) h t k
+  pub threaded_set : IsThreaded (slice_set m i e) h k n
   threaded_set = record {
-    full = full_set m i e w.full some;
+    within = subst (λ l. n ≤ l) (sym (length-set m i e)) w.within;
+    full = full_set m i n e w.within w.full some;
+    empty = empty_set m i n e below w.empty;
     arena = arena;
-    once =
-        subst (λ n. AreOnce (chain k h (slice_set m i e)) n) (sym (length-set m i e))
-        (subst (λ is. AreOnce is (length m)) (sym same_chain) w.once);
-    ends = subst (λ is. EndsAt is t) (sym same_chain) w.ends;
+    once = subst (λ is. AreOnce is n) (sym same_chain) w.once;
   }
 
   pub entries_set : entries (slice_set m i e) h k ≡ slice_set (entries m h k) i e
   entries_set = ap (without (slice_set m i e)) same_chain ∙ without_set m (chain k h m) i e free
 
 -- the first entry of the free list gets a group
-ends_rest : (i t : ℕ) (is : List ℕ) → EndsAt (i ∷ is) t → EndsAt is t
-ends_rest i t [] h = tt
-ends_rest i t (j ∷ js) h = h
-
-pub record IsTaken (m : Groups) (h t k : ℕ) (g : Group) : Type 0 where
-  pub threaded : IsThreaded (slice_set m h (Some g)) (next m h) t k
+pub record IsTaken (m : Groups) (h k n : ℕ) (g : Group) : Type 0 where
+  pub threaded : IsThreaded (slice_set m h (Some g)) (next m h) k n
   pub filled : entries (slice_set m h (Some g)) (next m h) k
       ≡ slice_set (entries m h (suc k)) h (Some g)
-  pub within : h < length m
+  pub below : h < n
   pub vacant : entry (entries m h (suc k)) h ≡ None
 
-pub taken : (m : Groups) (h t k : ℕ) (g : Group) → IsThreaded m h t (suc k) → length g.nodes ≡ 8
-    → IsTaken m h t k g
-taken m h t k g w eight =
+pub taken : (m : Groups) (h k n : ℕ) (g : Group) → IsThreaded m h (suc k) n → length g.nodes ≡ 8
+    → IsTaken m h k n g
+taken m h k n g w eight =
     let rest = chain k (next m h) m in
-    let (within, free, once) = w.once in
-    let w' : IsThreaded m (next m h) t k = record {
+    let (below, free, once) = w.once in
+    let w' : IsThreaded m (next m h) k n = record {
+      within = w.within;
       full = w.full;
+      empty = w.empty;
       arena = w.arena;
       once = once;
-      ends = ends_rest h t rest w.ends;
     } in
+    let arena = arena_filled m h g w.arena eight in
     record {
-      threaded =
-          threaded_set m (next m h) t k h (Some g) w' free (λ l. refl)
-          (arena_filled m h g w.arena eight);
+      threaded = threaded_set m (next m h) k n h (Some g) w' free below refl arena;
       filled =
-          entries_set m (next m h) t k h (Some g) w' free (λ l. refl)
-          (arena_filled m h g w.arena eight)
+          entries_set m (next m h) k n h (Some g) w' free below refl arena
           ∙ sym (set-set (without m rest) h None (Some g));
-      within = within;
+      below = below;
       vacant = vacant_set (without m rest) h;
     }
 
-pub some_with : (e : Option Group) (i : ℕ) (n : Node) → is_some (with_node e i n) ≡ is_some e
+-- where none was given back, the first entry that was never taken gets it
+pub begun : (m : Groups) (h n : ℕ) (g : Group) → IsThreaded m h 0 n → n < length m
+    → length g.nodes ≡ 8
+    → IsThreaded (slice_set m n (Some g)) h 0 (suc n)
+begun m h n g w l eight = record {
+  within = subst (λ k. suc n ≤ k) (sym (length-set m n (Some g))) (omega arith);
+  full = λ j a. elim (cases_eq j n) [
+    | inl same ↦ ap (λ k. is_some (entry (slice_set m n (Some g)) k)) same
+        ∙ ap is_some (entry_set_same m n (Some g) l)
+    | inr other ↦ ap is_some (entry_set_other m n j (Some g) other) ∙ w.full j (omega arith)
+  ];
+  empty =
+      λ j a. entry_set_other m n j (Some g) (λ p. omega arith) ∙ w.empty j (omega arith);
+  arena = arena_filled m n g w.arena eight;
+  once = tt;
+}
+
+some_with : (e : Option Group) (i : ℕ) (n : Node) → is_some (with_node e i n) ≡ is_some e
 some_with None i n = refl
 some_with (Some g) i n = refl
 
 -- a node of a live entry changes
-module _ (m : Groups) (h t k i j : ℕ) (n : Node) (w : IsThreaded m h t k)
+module _ (m : Groups) (h k n i j : ℕ) (node : Node) (w : IsThreaded m h k n)
     (live : IsLive (entries m h k) i) where
-  pub changed : IsThreaded (slice_set m i (with_node (entry m i) j n)) h t k
-      × (entries (slice_set m i (with_node (entry m i) j n)) h k ≡ slice_set (entries m h k) i
-      (with_node (entry (entries m h k) i) j n))
+  pub changed : IsThreaded (slice_set m i (with_node (entry m i) j node)) h k n
+      × (entries (slice_set m i (with_node (entry m i) j node)) h k ≡ slice_set (entries m h k) i
+      (with_node (entry (entries m h k) i) j node))
   changed =
-      let (free, same) = live_apart m (chain k h m) i live in
-      let e = with_node (entry m i) j n in
-      let some : i < length m → is_some e ≡ true = λ l. some_with (entry m i) j n ∙ w.full i l in
-      let arena = arena_changed m i j n w.arena in (
-        threaded_set m h t k i e w free some arena,
-        entries_set m h t k i e w free some arena
-            ∙ ap (λ x. slice_set (entries m h k) i (with_node x j n)) (sym same),
+      let (free, same, there, below) = live_in m h k n w i live in
+      let e = with_node (entry m i) j node in
+      let some : is_some e ≡ true = some_with (entry m i) j node ∙ there in
+      let arena = arena_changed m i j node w.arena in (
+        threaded_set m h k n i e w free below some arena,
+        entries_set m h k n i e w free below some arena
+            ∙ ap (λ x. slice_set (entries m h k) i (with_node x j node)) (sym same),
       )
 
 -- a live entry becomes the first of the free list
-pub next_with : (m : Groups) (i h : ℕ) (id : GroupId) (v : ℤ) → id.number ≡ h → i < length m
-    → IsFull m → IsArena m → next (slice_set m i (with_node (entry m i) 0 (Inner v id))) i ≡ h
-next_with m i h id v e l full arena =
+next_with : (m : Groups) (i h : ℕ) (id : GroupId) (v : ℤ) → id.number ≡ h → i < length m
+    → IsLive m i → IsArena m → next (slice_set m i (with_node (entry m i) 0 (Inner v id))) i ≡ h
+next_with m i h id v e l live arena =
     ap (λ x. linked_number (node_of x 0))
     (entry_set_same m i (with_node (entry m i) 0 (Inner v id)) l)
     ∙ ap linked_number
-    (node_with_same (entry m i) 0 (Inner v id) (full i l) (λ g at. arena.eight i g at)
-    (omega arith))
+    (node_with_same (entry m i) 0 (Inner v id) live (λ g at. arena.eight i g at) (omega arith))
     ∙ e
 
--- the last entry once one more is in front
-abbrev pub new_tail : ℕ → ℕ → ℕ → ℕ
-new_tail zero i t = i
-new_tail (suc k) i t = t
-
-ends_more : (m : Groups) (i t k h : ℕ) → EndsAt (chain k h m) t
-    → EndsAt (i ∷ chain k h m) (new_tail k i t)
-ends_more m i t zero h e = refl
-ends_more m i t (suc k) h e = e
-
-pub given : (m : Groups) (h t k i : ℕ) (id : GroupId) (v : ℤ) → IsThreaded m h t k
+pub given : (m : Groups) (h k n i : ℕ) (id : GroupId) (v : ℤ) → IsThreaded m h k n
     → IsLive (entries m h k) i → id.number ≡ h
     → (let m' = slice_set m i (with_node (entry m i) 0 (Inner v id)) in
-    IsThreaded m' i (new_tail k i t) (suc k)
-    × (entries m' i (suc k) ≡ slice_set (entries m h k) i None))
-given m h t k i id v w live e =
-    let (free, same) = live_apart m (chain k h m) i live in
+    IsThreaded m' i (suc k) n × (entries m' i (suc k) ≡ slice_set (entries m h k) i None))
+given m h k n i id v w live e =
+    let (free, same, there, below) = live_in m h k n w i live in
     let x = with_node (entry m i) 0 (Inner v id) in
     let m' = slice_set m i x in
-    let within : i < length m =
-    subst (λ n. i < n) (length_without m (chain k h m)) (live_within (entries m h k) i live) in
-    let some : i < length m → is_some x ≡ true =
-    λ l. some_with (entry m i) 0 (Inner v id) ∙ w.full i l in
+    let few = w.within in
+    let within : i < length m = omega arith in
+    let some : is_some x ≡ true = some_with (entry m i) 0 (Inner v id) ∙ there in
     let arena = arena_changed m i 0 (Inner v id) w.arena in
-    let w' = threaded_set m h t k i x w free some arena in
-    let link : next m' i ≡ h = next_with m i h id v e within w.full w.arena in
+    let w' = threaded_set m h k n i x w free below some arena in
+    let link : next m' i ≡ h = next_with m i h id v e within there w.arena in
     let chained : chain (suc k) i m' ≡ i ∷ chain k h m =
     ap (λ p. i ∷ chain k p m') link ∙ ap (λ is. i ∷ is) (chain_set k h m i x free) in (
       record {
+        within = w'.within;
         full = w'.full;
+        empty = w'.empty;
         arena = arena;
-        once =
-            subst (λ is. AreOnce is (length m')) (sym chained)
-            (subst (λ n. AreOnce (i ∷ chain k h m) n) (sym (length-set m i x))
-            (within, free, w.once));
-        ends = subst (λ is. EndsAt is (new_tail k i t)) (sym chained) (ends_more m i t k h w.ends);
+        once = subst (λ is. AreOnce is n) (sym chained) (below, free, w.once);
       },
       ap (without m') chained
           ∙ ap (λ gs. slice_set gs i None) (without_set m (chain k h m) i x free)

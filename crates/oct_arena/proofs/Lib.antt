@@ -7,4 +7,3 @@ pub mod Ids
 pub mod Growth
 pub mod Packings
 pub mod Homes
-pub mod Splits

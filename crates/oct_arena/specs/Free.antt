@@ -1,12 +1,9 @@
--- The free list of an arena, which is threaded through the memory of its vacant groups.
-use Rattle.std.specs.Prelude.{◌≡◌, ℕ, zero, suc, ◌<◌, List, [], ◌∷◌, length, None, slice_set, ⊤}
+-- The free list of an arena, which is threaded through the memory of the groups that were given
+-- back.
+use Rattle.std.specs.Prelude.{◌≡◌, ℕ, zero, suc, ◌<◌, ◌≤◌, List, [], ◌∷◌, length, None, slice_set, ⊤}
 use Rattle.oct_arena.specs.declared.node.Node.{Node}
 use Rattle.oct_arena.specs.declared.node.Node.TheVariants.{Absent, Leaf, Inner}
-use Rattle.oct_arena.specs.Entries.{Groups, IsArena, IsLive, node_at}
-
--- each entry has memory of a group
-abbrev pub IsFull : Groups → Type 0
-IsFull memory = (i : ℕ) → i < length memory → IsLive memory i
+use Rattle.oct_arena.specs.Entries.{Groups, IsArena, IsLive, entry, node_at}
 
 -- the number of the group that a node links
 abbrev pub linked_number : Node → ℕ
@@ -38,15 +35,11 @@ abbrev pub AreOnce : List ℕ → ℕ → Type 0
 AreOnce [] n = ⊤
 AreOnce (i ∷ is) n = (i < n) × IsNotIn i is × AreOnce is n
 
--- tail is the last of them, where there is one
-abbrev pub EndsAt : List ℕ → ℕ → Type 0
-EndsAt [] tail = ⊤
-EndsAt (i ∷ []) tail = i ≡ tail
-EndsAt (i ∷ j ∷ js) tail = EndsAt (j ∷ js) tail
-
--- memory with a free list of that many entries, from head to tail
-pub record IsThreaded (memory : Groups) (head tail count : ℕ) : Type 0 where
-  pub full : IsFull memory
+-- memory of which as many entries were ever taken as used says, with a free list of those that were
+-- given back, from head on
+pub record IsThreaded (memory : Groups) (head given used : ℕ) : Type 0 where
+  pub within : used ≤ length memory
+  pub full : (i : ℕ) → i < used → IsLive memory i
+  pub empty : (i : ℕ) → used ≤ i → entry memory i ≡ None
   pub arena : IsArena memory
-  pub once : AreOnce (chain count head memory) (length memory)
-  pub ends : EndsAt (chain count head memory) tail
+  pub once : AreOnce (chain given head memory) used

@@ -1,4 +1,4 @@
-//! Groups under ids: taken from a list of vacant entries, and put back in front of it.
+//! Groups under ids: taken from the entries that were given back, or from those never taken.
 ghost use Rattle.std.specs.Prelude.{◌≡◌, ℕ, ◌+◌, ◌-◌, ◌*◌, ◌<◌, ◌≤◌, ◌^◌, [], ◌++◌, length};
 ghost use Rattle.std.specs.Prelude.{slice_set, Some, None, OnOk, OnErr, IsOk, max, pos};
 ghost use Rattle.std.specs.Prelude.{option_map};
@@ -22,11 +22,13 @@ use std::marker::Model;
 #[derive(Drop)]
 pub struct NodeArena {
     rows: Rows,
-    // The first and the last entry of the free list, where there is one. The memory of each vacant
-    // group links the next.
+    // The first of the entries that were given back, where there is one, and how many there are.
+    // The memory of each links the next.
     head: GroupId,
-    tail: GroupId,
-    spare: u32,
+    given: u32,
+    // How many entries were ever taken: those before this one. The memory of the others has not
+    // been written.
+    used: u32,
 }
 
 impl Model for NodeArena {
@@ -35,28 +37,9 @@ impl Model for NodeArena {
 
     ghost Value = { Groups };
 
-    ghost view = { λ a. without a.rows (chain a.spare a.head.number a.rows) };
+    ghost view = { λ a. without a.rows (chain a.given a.head.number a.rows) };
 
-    ghost invariant = { λ a. IsThreaded a.rows a.head.number a.tail.number a.spare };
-}
-
-/// Lets the last entry of a free list link `next`, and answers the list's first entry.
-fn link_last(rows: &mut Rows, spare: u32, head: GroupId, tail: GroupId, next: GroupId) -> GroupId
-    requires { 1 ≤ spare → tail.number < length rows.old }
-    ensures none { spare ≡ 0 → (rows.new ≡ rows.old) × (result.number ≡ next.number) }
-    ensures some { 1 ≤ spare → (rows.new ≡ slice_set rows.old tail.number
-        (with_node (entry rows.old tail.number) 0 (Inner (pos 0) next)))
-        × (result.number ≡ head.number) }
-{
-    if spare == 0 {
-        return next;
-    }
-    rows.set_node(
-        tail.number() as usize,
-        0,
-        PackedNode::new(Node::Inner(0, next)),
-    );
-    head
+    ghost invariant = { λ a. IsThreaded a.rows a.head.number a.given a.used };
 }
 
 impl NodeArena {
@@ -65,12 +48,11 @@ impl NodeArena {
         ensures empty { result ≡ [] }
         ensures arena { IsArena result }
     {
-        let nowhere = GroupId::new(0);
         NodeArena {
             rows: Rows::new(alloc),
-            head: nowhere,
-            tail: nowhere,
-            spare: 0,
+            head: GroupId::new(0),
+            given: 0,
+            used: 0,
         }
     }
 
@@ -95,8 +77,7 @@ impl NodeArena {
         Ok(())
     }
 
-    /// Appends a chunk of vacant entries at the end of the free list, or none where memory runs
-    /// out.
+    /// Appends a chunk of vacant entries, or none where memory runs out.
     #[inline(never)]
     fn grow(&mut self) -> Result<(), Memory>
         requires { length self.old < 2 ^ 31 }
@@ -104,12 +85,7 @@ impl NodeArena {
         ensures err { OnErr result (self.new ≡ self.old) }
         ensures arena { IsArena self.new }
     {
-        let first = self.rows.len() as u32;
         self.rows.append()?;
-        let start = GroupId::new(first);
-        self.head = link_last(&mut self.rows, self.spare, self.head, self.tail, start);
-        self.tail = GroupId::new(first + (CHUNK as u32 - 1));
-        self.spare += CHUNK as u32;
         Ok(())
     }
 
@@ -123,12 +99,32 @@ impl NodeArena {
         ensures spare { spare self.new + 1 ≡ spare self.old }
         ensures arena { IsArena self.new }
     {
+        self.put(PackedBlock::new(home), PackedNode::all(&nodes))
+    }
+
+    /// Puts a group into the entry that was given back last, where there is one, and else into the
+    /// first one that was never taken. No other entry changes.
+    #[inline(always)]
+    fn put(&mut self, home: PackedBlock, nodes: [PackedNode; 8]) -> GroupId
+        requires { 1 ≤ spare self.old }
+        ensures within { result.number < length self.old }
+        ensures vacant { entry self.old result.number ≡ None }
+        ensures filled { self.new ≡ slice_set self.old result.number
+            (Some (record { home = home; nodes = nodes })) }
+        ensures spare { spare self.new + 1 ≡ spare self.old }
+        ensures arena { IsArena self.new }
+    {
+        if self.given == 0 {
+            let id = GroupId::new(self.used);
+            self.rows.write(self.used as usize, home, nodes);
+            self.used += 1;
+            return id;
+        }
         let id = self.head;
         let at = id.number() as usize;
         self.head = self.rows.get(at).next();
-        self.rows
-            .fill(at, PackedBlock::new(home), PackedNode::all(&nodes));
-        self.spare -= 1;
+        self.rows.fill(at, home, nodes);
+        self.given -= 1;
         id
     }
 
@@ -149,15 +145,9 @@ impl NodeArena {
         ensures spare { spare self.new + 1 ≡ spare self.old }
         ensures arena { IsArena self.new }
     {
-        let under = self.head;
-        let at = id.number() as usize;
-        let free = under.number() as usize;
-        self.head = self.rows.get(free).next();
-        self.spare -= 1;
-        let (home, node) = self.rows.get(at).child(i);
-        self.rows.fill(free, home, [node; 8]);
-        self.rows
-            .set_node(at, i, PackedNode::new(Node::Inner(value, under)));
+        let (home, node) = self.group(id).child(i);
+        let under = self.put(home, [node; 8]);
+        self.set_node(id, i, Node::Inner(value, under));
         under
     }
 
@@ -168,13 +158,13 @@ impl NodeArena {
         ensures spare { spare self.new ≡ spare self.old + 1 }
         ensures arena { IsArena self.new }
     {
-        let at = id.number() as usize;
-        let tail = if self.spare == 0 { id } else { self.tail };
-        self.rows
-            .set_node(at, 0, PackedNode::new(Node::Inner(0, self.head)));
+        self.rows.set_node(
+            id.number() as usize,
+            0,
+            PackedNode::new(Node::Inner(0, self.head)),
+        );
         self.head = id;
-        self.tail = tail;
-        self.spare += 1;
+        self.given += 1;
     }
 
     /// Node i of the group.
@@ -235,7 +225,7 @@ impl NodeArena {
         ensures exact { result ≡ live self.now }
         ensures arena { IsArena self.now }
     {
-        self.rows.len() as u32 - self.spare
+        self.used - self.given
     }
 
     /// How many groups can still be taken.
@@ -243,7 +233,7 @@ impl NodeArena {
         ensures exact { result ≡ spare self.now }
         ensures arena { IsArena self.now }
     {
-        self.spare
+        self.rows.len() as u32 - self.used + self.given
     }
 }
 

@@ -10,17 +10,6 @@ use crate::node::{Group, GroupId, Node, PackedNode};
 use oct_key::Block;
 
 impl Group {
-    /// A vacant group: its memory links the entry after it in the free list.
-    pub(crate) fn linking(next: GroupId) -> Group
-        ensures link { linked_number (node_of (Some result) 0) ≡ next.number }
-        ensures eight { length result.nodes ≡ 8 }
-    {
-        Group {
-            home: PackedBlock::new(Block::whole_map()),
-            nodes: [PackedNode::new(Node::Inner(0, next)); 8],
-        }
-    }
-
     /// The entry that a vacant group links.
     pub(crate) fn next(&self) -> GroupId
         ensures { result.number ≡ linked_number (node_of (Some self.now) 0) }

@@ -35,13 +35,14 @@
 //! may need can't fail on the way and leave half of it done.
 //!
 //! Groups lie in chunks of 1,024, which never move. A node takes eight bytes, a home too, and a
-//! group 72. The vacant entries are a list that is threaded through their own memory: the first
-//! node of each links the next. The invariant says that each vacant entry stands on the list once,
-//! and that the list is as long as `spare` counts. `take` takes the first entry of the list, and
-//! `give` puts one in front. A new chunk goes to the end of the list, each of its groups written
-//! once, so new entries are taken in the order of their ids, and groups that are made one after
-//! another lie side by side. All calls but `reserve` take a few steps, however many groups there
-//! are. An arena that is dropped gives all memory back.
+//! group 72. The memory of an entry is first written when it is first taken. The entries that were
+//! given back are a list that is threaded through their own memory: the first node of each links
+//! the next. The invariant says that each of them stands on the list once, and that each entry that
+//! was ever taken has a group in its memory, and no other one. `take` takes the first entry of the
+//! list, or, where that is empty, the first one that was never taken; `give` puts one in front. So
+//! new entries are taken in the order of their ids, and groups that are made one after another lie
+//! side by side. All calls but `reserve` take a few steps, however many groups there are. An arena
+//! that is dropped gives all memory back.
 //!
 //! The tree stands on this crate, and cites `Groups`, `entry`, `IsLive`, `node_at` and `home_at`.
 //! `IsArena` is what each list of an arena has: at most 2^31 + 1,023 entries, and eight nodes in

@@ -1,7 +1,7 @@
 //! The groups of all chunks, numbered through.
-ghost use Rattle.std.specs.Prelude.{◌≡◌, ◌<◌, ◌≤◌, ◌^◌, [], length, slice_set, Some, OnOk, OnErr};
-ghost use Rattle.oct_arena.specs.Entries.{entry, with_node};
-ghost use Rattle.oct_arena.specs.Chunks.{HasGrown};
+ghost use Rattle.std.specs.Prelude.{◌≡◌, ◌<◌, ◌≤◌, ◌^◌, ◌++◌, [], length, slice_set, Some, None};
+ghost use Rattle.std.specs.Prelude.{OnOk, OnErr};
+ghost use Rattle.oct_arena.specs.Entries.{IsLive, entry, with_node, vacant};
 
 use crate::chunk::{CHUNK, Chunk};
 use crate::home::PackedBlock;
@@ -45,15 +45,27 @@ impl Rows {
     }
 
     pub(crate) fn get(&self, i: usize) -> &Group
-        requires { i < length self.now }
+        requires { IsLive self.now i }
         ensures { entry self.now i ≡ Some result.now }
     {
         let chunk = &self.chunks[i / CHUNK];
         chunk.get(i % CHUNK)
     }
 
+    /// Writes a group where none has been written.
+    pub(crate) fn write(&mut self, i: usize, home: PackedBlock, nodes: [PackedNode; 8])
+        requires within { i < length self.old }
+        requires empty { entry self.old i ≡ None }
+        ensures { self.new
+            ≡ slice_set self.old i (Some (record { home = home; nodes = nodes })) }
+    {
+        let chunk = &mut self.chunks[i / CHUNK];
+        chunk.write(i % CHUNK, home, nodes);
+    }
+
+    /// Writes a group in the place of another one.
     pub(crate) fn fill(&mut self, i: usize, home: PackedBlock, nodes: [PackedNode; 8])
-        requires { i < length self.old }
+        requires { IsLive self.old i }
         ensures { self.new
             ≡ slice_set self.old i (Some (record { home = home; nodes = nodes })) }
     {
@@ -62,7 +74,7 @@ impl Rows {
     }
 
     pub(crate) fn set_node(&mut self, i: usize, j: u8, node: PackedNode)
-        requires within { i < length self.old }
+        requires live { IsLive self.old i }
         requires child { j ≤ 7 }
         ensures { self.new ≡ slice_set self.old i (with_node (entry self.old i) j node) }
     {
@@ -70,13 +82,13 @@ impl Rows {
         chunk.set_node(i % CHUNK, j, node);
     }
 
-    /// Adds a chunk whose groups link one another, or none where memory runs out.
+    /// Adds a chunk in which no group has been written, or none where memory runs out.
     pub(crate) fn append(&mut self) -> Result<(), AllocError>
         requires { length self.old < 2 ^ 31 }
-        ensures ok { OnOk result (HasGrown self.old self.new) }
+        ensures ok { OnOk result (self.new ≡ self.old ++ vacant 1024) }
         ensures err { OnErr result (self.new ≡ self.old) }
     {
-        let chunk = Chunk::new(self.alloc, self.len() as u32)?;
+        let chunk = Chunk::new(self.alloc)?;
         self.chunks.push(chunk)?;
         Ok(())
     }

@@ -1,13 +1,13 @@
-use Rattle.std.proofs.Common.{◌∙◌, ap, subst, sym, length, ◌<◌}
-use Rattle.oct_arena.specs.Entries.{entry, node_of}
-use Rattle.oct_arena.proofs.Calls.{within, in_memory, arena}
+use Rattle.std.proofs.Common.{◌∙◌, ap, subst, sym}
+use Rattle.oct_arena.specs.Entries.{IsLive, entry, node_of}
+use Rattle.oct_arena.proofs.Calls.{there, in_memory, arena}
 use Rattle.oct_arena.proofs.arena.NodeArena.node.Goals as goal
 
 pub get-requires : goal.get-requires
 get-requires c =
     let a = c.self.inside in
-    subst (λ n. n < length a.rows) (sym c.number.ensures.same)
-    (within a.rows a.head.number a.tail.number a.spare c.args.self.now c.self.invariant
+    subst (IsLive a.rows) (sym c.number.ensures.same)
+    (there a.rows a.head.number a.given a.used c.args.self.now c.self.invariant
     c.self.view_is c.args.id.number c.requires.live)
 
 pub returns-clause-exact : goal.returns-clause-exact
@@ -15,11 +15,11 @@ returns-clause-exact c =
     let a = c.self.inside in
     c.node.ensures
     ∙ ap (λ e. node_of e c.args.i)
-    (sym (in_memory a.rows a.head.number a.tail.number a.spare c.args.self.now c.self.invariant
+    (sym (in_memory a.rows a.head.number a.given a.used c.args.self.now c.self.invariant
     c.self.view_is c.args.id.number c.requires.live
     ∙ ap (entry a.rows) (sym c.number.ensures.same) ∙ c.get.ensures))
 
 pub returns-clause-arena : goal.returns-clause-arena
 returns-clause-arena c =
     let a = c.self.inside in
-    arena a.rows a.head.number a.tail.number a.spare c.args.self.now c.self.invariant c.self.view_is
+    arena a.rows a.head.number a.given a.used c.args.self.now c.self.invariant c.self.view_is

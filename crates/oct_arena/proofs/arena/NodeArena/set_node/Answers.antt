@@ -1,22 +1,22 @@
-use Rattle.std.proofs.Common.{refl, ◌∙◌, ap, subst, sym, length, ◌<◌}
+use Rattle.std.proofs.Common.{refl, ◌∙◌, ap, subst, sym}
 use Rattle.std.specs.Prelude.{slice_set}
-use Rattle.oct_arena.specs.Entries.{entry, with_node, spare}
-use Rattle.oct_arena.proofs.Calls.{within, has_changed, Changed, arena}
+use Rattle.oct_arena.specs.Entries.{IsLive, entry, with_node, spare}
+use Rattle.oct_arena.proofs.Calls.{there, has_changed, Changed, arena}
 use Rattle.oct_arena.proofs.arena.NodeArena.set_node.Goals as goal
 
-pub set_node-requires-clause-within : goal.set_node-requires-clause-within
-set_node-requires-clause-within c =
+pub set_node-requires-clause-live : goal.set_node-requires-clause-live
+set_node-requires-clause-live c =
     let a = c.self.inside in
-    subst (λ n. n < length a.rows) (sym c.number.ensures.same)
-    (within a.rows a.head.number a.tail.number a.spare c.args.self.now c.self.invariant
+    subst (IsLive a.rows) (sym c.number.ensures.same)
+    (there a.rows a.head.number a.given a.used c.args.self.now c.self.invariant
     c.self.view_is c.args.id.number c.requires.live)
 
 after : (c : goal.After-set_node) → (let a = c.self.inside in
-    Changed a.rows a.head.number a.tail.number a.spare c.args.self.now c.self.invariant
+    Changed a.rows a.head.number a.given a.used c.args.self.now c.self.invariant
     c.self.view_is c.args.id.number c.args.i c.args.n c.set_node.new.self)
 after c =
     let a = c.self.inside in
-    has_changed a.rows a.head.number a.tail.number a.spare c.args.self.now c.self.invariant
+    has_changed a.rows a.head.number a.given a.used c.args.self.now c.self.invariant
     c.self.view_is c.args.id.number c.args.i c.args.n c.set_node.new.self c.requires.live
     (c.set_node.ensures
     ∙ ap (λ n. slice_set a.rows c.number.result (with_node (entry a.rows c.number.result)
@@ -37,4 +37,4 @@ returns-clause-spare c = ap spare (after c).changed ∙ (after c).spares
 pub returns-clause-arena : goal.returns-clause-arena
 returns-clause-arena c =
     let a = c.self.inside in
-    arena c.set_node.new.self a.head.number a.tail.number a.spare _ (after c).threaded refl
+    arena c.set_node.new.self a.head.number a.given a.used _ (after c).threaded refl

@@ -4,7 +4,5 @@ use Rattle.oct_arena.proofs.chunk.Chunk.get.Goals as goal
 
 pub get-requires : goal.get-requires
 get-requires c =
-    let w = c.self.invariant in (
-      sym w.placed,
-      has_value c.self.inside.cells.values c.args.i w.full (rw c.self.view_is c.requires),
-    )
+    let w = c.self.invariant in
+    (sym w.placed, has_value c.self.inside.cells.values c.args.i (rw c.self.view_is c.requires))

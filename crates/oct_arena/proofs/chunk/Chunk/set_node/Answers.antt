@@ -4,7 +4,5 @@ use Rattle.oct_arena.proofs.chunk.Chunk.set_node.Goals as goal
 
 pub get_mut-group-requires : goal.get_mut-group-requires
 get_mut-group-requires c =
-    let w = c.self.invariant in (
-      sym w.placed,
-      has_value c.self.inside.cells.values c.args.i w.full (rw c.self.view_is c.requires.within),
-    )
+    let w = c.self.invariant in
+    (sym w.placed, has_value c.self.inside.cells.values c.args.i (rw c.self.view_is c.requires.live))

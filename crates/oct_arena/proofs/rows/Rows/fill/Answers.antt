@@ -1,6 +1,7 @@
 use Rattle.std.proofs.Common.{rules, ◌≡◌, length, vec_len}
 use Rattle.std.proofs.lemmas.List.{length-set}
-use Rattle.oct_arena.proofs.Chunks.{chunk_within, place_within, written_full, written}
+use Rattle.oct_arena.proofs.Entries.{live_within}
+use Rattle.oct_arena.proofs.Chunks.{chunk_within, live_place, written_full, written}
 use Rattle.oct_arena.proofs.rows.Rows.fill.Goals as goal
 
 pub index_mut-chunk-requires : goal.index_mut-chunk-requires
@@ -8,17 +9,18 @@ index_mut-chunk-requires c =
     let len : vec_len c.self.inside.chunks ≡ length c.self.inside.chunks.items = search rules in
     rw len
     (chunk_within c.self.inside.chunks.items c.args.self.now c.args.i c.self.invariant.0
-    c.self.view_is c.requires)
+    c.self.view_is (live_within c.args.self.now c.args.i c.requires))
 
 pub fill-requires : goal.fill-requires
 fill-requires c =
-    place_within c.self.inside.chunks.items c.args.self.now c.args.i c.self.invariant.0
-    c.self.view_is c.requires c.index_mut-chunk.result.now c.index_mut-chunk.ensures.value
+    live_place c.self.inside.chunks.items c.args.self.now c.args.i c.self.invariant.0
+    c.self.view_is (live_within c.args.self.now c.args.i c.requires) c.index_mut-chunk.result.now
+    c.index_mut-chunk.ensures.value c.requires
 
 pub invariant_of-self : goal.invariant_of-self
 invariant_of-self c = (
   written_full c.self.inside.chunks.items c.args.self.now c.args.i c.self.invariant.0 c.self.view_is
-      c.requires c.index_mut-chunk.result.now c.index_mut-chunk.ensures.value c.fill.new.self _
+      (live_within c.args.self.now c.args.i c.requires) c.index_mut-chunk.result.now c.index_mut-chunk.ensures.value c.fill.new.self _
       c.fill.ensures,
   rw length-set c.self.invariant.1,
 )
@@ -26,5 +28,5 @@ invariant_of-self c = (
 pub returns : goal.returns
 returns c =
     written c.self.inside.chunks.items c.args.self.now c.args.i c.self.invariant.0 c.self.view_is
-    c.requires c.index_mut-chunk.result.now c.index_mut-chunk.ensures.value c.fill.new.self _
+    (live_within c.args.self.now c.args.i c.requires) c.index_mut-chunk.result.now c.index_mut-chunk.ensures.value c.fill.new.self _
     c.fill.ensures
