@@ -58,7 +58,7 @@
  * point, where nothing else is said with it; a walk goes over all nodes of the map's tree. A call
  * that changes a map takes its memory before it changes anything, octofix_edit_all that of one edit
  * after the other. Calls that list what is in a map take some for the list. Queries of points,
- * blocks and segments take none, and neither does octofix_ray.
+ * blocks and segments take none, and neither do octofix_ray and octofix_place.
  *
  * What is proved. Of each function here (but the two that stand here whole) it is proved, for all
  * maps and all numbers: which code it answers, what it writes, and what map it leaves
@@ -464,6 +464,14 @@ uint32_t octofix_bounds(const octofix_map *map, uint32_t sought, octofix_box *co
  * Refused: BAD_RESOLUTION, OUTSIDE, SMALL_BUFFER. */
 uint32_t octofix_ray(int64_t res, const octofix_point *origin, const octofix_point *end,
                      octofix_key *keys, size_t room, size_t *count, octofix_details *details);
+
+/* Without a map: where points of a sensor's frame lie in that of the map. Each is turned by the
+ * quaternion, rounded once to whole nanometres, and moved, as octofix_scan does it. There are as many
+ * places as points, which begin elsewhere. Refused before anything is written: BAD_ARGUMENT (a
+ * coordinate of magnitude 10^16 or more, of the sensor, with index 0, or of a point, with its
+ * index), ZERO_QUATERNION, SMALL_BUFFER. */
+uint32_t octofix_place(const octofix_pose *pose, const octofix_point *points, size_t count,
+                       octofix_point *places, size_t room, octofix_details *details);
 
 /* -- changes since a mark */
 

@@ -389,6 +389,18 @@ class voxels {
     });
 }
 
+/// Where points of a sensor's frame lie in that of the map, each turned, rounded once, and moved, as
+/// by a scan.
+[[nodiscard]] inline std::vector<point> place(const pose &sensor, view<point> points) {
+    std::vector<point> places(points.size() + 1);
+    details named{};
+    detail::check(octofix_place(&sensor, detail::start(points), points.size(), places.data(),
+                                points.size(), &named),
+                  named, !points.empty());
+    places.pop_back();
+    return places;
+}
+
 // -- the map
 
 /// A map. It is moved, and copied by clone() alone; one that was moved from is closed.

@@ -303,6 +303,52 @@ static void try_scans_in_map(void) {
     octofix_close(&map);
 }
 
+static void expect_place(octofix_point place, octofix_point wanted) {
+    EXPECT(place.x, wanted.x);
+    EXPECT(place.y, wanted.y);
+    EXPECT(place.z, wanted.z);
+}
+
+/* A quarter turn about z, and one of a third of a turn about (1, 1, 1), which takes x to y. */
+static void try_places(void) {
+    const octofix_pose quarter = {{10, 20, 30}, 5, 0, 0, 5}, third = {{0, 0, 0}, -7, -7, -7, -7};
+    const octofix_pose half_way = {{0, 0, 0}, 2, 1, 0, 0};
+    const octofix_point points[] = {{1, 2, 3}, {0, 5, 5}, {0, 0, -1}};
+    const octofix_point spare = {4711, 4711, 4711};
+    octofix_point places[4] = {spare, spare, spare, spare};
+    EXPECT_DETAILS(octofix_place(&quarter, points, 3, places, 4, &details), 0, 0, 0);
+    expect_place(places[0], (octofix_point){8, 21, 33});
+    expect_place(places[1], (octofix_point){5, 20, 35});
+    expect_place(places[3], spare);
+    EXPECT_DETAILS(octofix_place(&third, points, 1, places, 1, &details), 0, 0, 0);
+    expect_place(places[0], (octofix_point){3, 1, 2});
+    expect_place(places[1], (octofix_point){5, 20, 35});
+    /* (0, 5, 5) goes to (0, -1, 7), and (0, 0, -1) to (0, 0.8, -0.6), rounded */
+    EXPECT_DETAILS(octofix_place(&half_way, points + 1, 2, places, 2, &details), 0, 0, 0);
+    expect_place(places[0], (octofix_point){0, -1, 7});
+    expect_place(places[1], (octofix_point){0, 1, -1});
+    EXPECT_DETAILS(octofix_place(&quarter, points, 0, places, 0, &details), 0, 0, 0);
+}
+
+/* Nothing is written where points aren't placed, and the first cause is told. */
+static void try_refused_places(void) {
+    const int64_t wide = 10000000000000000;
+    octofix_pose pose = {{0, 0, wide}, 0, 0, 0, 0};
+    const octofix_point points[] = {{wide - 1, 1 - wide, wide - 1}, {0, -wide, 0}, {INT64_MIN, 0, 0}};
+    octofix_point places[2] = {{4711, 0, 0}, {4711, 0, 0}};
+    EXPECT_DETAILS(octofix_place(&pose, points, 3, places, 2, &details), 47, 0, 0);
+    pose.at.z = 1 - wide;
+    EXPECT_DETAILS(octofix_place(&pose, points, 3, places, 2, &details), 47, 1, 0);
+    EXPECT_DETAILS(octofix_place(&pose, points, 1, places, 0, &details), 5, 0, 0);
+    pose.w = INT16_MIN;
+    EXPECT_DETAILS(octofix_place(&pose, points + 1, 2, places, 2, &details), 47, 0, 0);
+    EXPECT_DETAILS(octofix_place(&pose, points, 1, places, 0, &details), OCTOFIX_SMALL_BUFFER, 0, 0);
+    EXPECT(places[0].x, 4711);
+    EXPECT_DETAILS(octofix_place(&pose, points, 1, places, 2, &details), 0, 0, 0);
+    expect_place(places[0], (octofix_point){wide - 1, 1 - wide, 0});
+    EXPECT(places[1].x, 4711);
+}
+
 /* Refusals come in the order of octofix.h, and all that aren't of a point without points, too. */
 static void try_order_of_scans(void) {
     octofix_map map = opened(&default_odds, &default_limits);
@@ -852,6 +898,8 @@ int main(void) {
     try_full();
     try_scans();
     try_scans_in_map();
+    try_places();
+    try_refused_places();
     try_order_of_scans();
     try_extreme_scans();
     try_limits();

@@ -7,6 +7,7 @@ pub mod InMap
 pub mod Loads
 pub mod Models
 pub mod Opened
+pub mod Poses
 pub mod Reaches
 mod Rows
 pub mod Sights

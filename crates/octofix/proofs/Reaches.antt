@@ -2,7 +2,8 @@
 use Rattle.std.proofs.Common.{◌≡◌, ℕ, ◌+◌, ◌<◌, ◌≤◌, List, [], ◌∷◌, ◌++◌, length, map, take, drop}
 use Rattle.std.proofs.Common.{All, Some, None, true, false, refl, sym, ap, subst, ◌∙◌, add-one}
 use Rattle.std.proofs.Common.{arith, get_or}
-use Rattle.std.proofs.lemmas.List.{drop_all, drop_more, map-append, take_more}
+use Rattle.std.proofs.lemmas.List.{drop_all, drop_more, get_or-map, length-map, map-append}
+use Rattle.std.proofs.lemmas.List.{take_more}
 use Rattle.std.proofs.lemmas.List.Elements.{All-append, All-cons}
 use Rattle.oct_pose.specs.Reach.{IsInReach}
 use Rattle.octofix.specs.Points.{point_of}
@@ -48,3 +49,10 @@ reach_more points i d within near so_far =
     (All-append IsInReach (map point_of (take i points)) (point_of (get_or points i d) ∷ [])
     so_far (All-cons IsInReach (point_of (get_or points i d)) [] near
     (λ k d below. absurd (omega arith))))
+
+-- each point is in reach where all are
+pub reach_at : (points : List PointNm) (i : ℕ) (d : PointNm) → All IsInReach (map point_of points)
+    → i < length points → IsInReach (point_of (get_or points i d))
+reach_at points i d all within =
+    subst IsInReach (get_or-map point_of points i d (point_of d) within)
+    (all i (point_of d) (omega (arith, length-map points point_of, within)))

@@ -18,6 +18,7 @@ pub mod Merges
 pub mod Names
 pub mod Numbers
 pub mod Owned
+pub mod Places
 pub mod Points
 pub mod Queries
 pub mod Rays

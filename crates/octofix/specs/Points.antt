@@ -10,6 +10,10 @@ use Rattle.octofix.specs.declared.types.VoxelKey.{VoxelKey}
 abbrev pub point_of : PointNm → Point
 point_of p = record { x = p.x; y = p.y; z = p.z }
 
+-- the same point, as C reads it
+abbrev pub point_told : Point → PointNm
+point_told p = record { x = p.x; y = p.y; z = p.z }
+
 -- the same voxel
 abbrev pub key_told : Key → VoxelKey
 key_told k = record { x = k.x; y = k.y; z = k.z }

@@ -58,6 +58,7 @@ mod making;
 mod merging;
 mod names;
 mod parts;
+mod places;
 mod queries;
 mod rays;
 mod refusal;

@@ -29,7 +29,7 @@ const REACH: u64 = 10_000_000_000_000_000;
 const MOST: i32 = 1_000_000;
 
 /// Whether a point isn't too far away to be turned and moved.
-fn is_in_reach(p: Point) -> bool
+pub fn is_in_reach(p: Point) -> bool
     ensures exact { result ≡ is_in_reach p }
     ensures near { IsTrue result → IsInReach p }
 {
@@ -49,7 +49,7 @@ fn copied(alloc: Global, points: &[PointNm]) -> Result<PointList, Memory>
 }
 
 /// The first point out of reach is refused.
-fn test_points(points: &[PointNm]) -> Result<(), Refusal>
+pub fn test_points(points: &[PointNm]) -> Result<(), Refusal>
     ensures near { IfOk result (λ _. (points_from points.now ≡ Ok (map point_of points.now))
         × All IsInReach (map point_of points.now)) }
     ensures far { IfErr result (λ refusal. points_from points.now ≡ Err refusal) }

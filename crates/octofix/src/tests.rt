@@ -18,6 +18,7 @@ use std::test::Fail;
 
 mod asking;
 mod merging;
+mod placing;
 
 /// Where the sensor stands.
 const ORIGIN: PointNm = PointNm {

@@ -1,6 +1,6 @@
 //! The plain types that C passes and reads.
 ghost use Rattle.std.specs.Prelude.{◌≡◌};
-ghost use Rattle.octofix.specs.Points.{box_told, key_told, point_of};
+ghost use Rattle.octofix.specs.Points.{box_told, key_told, point_of, point_told};
 
 use oct_key::{Key, Point, Window};
 
@@ -174,6 +174,14 @@ impl PointNm {
     {
         let PointNm { x, y, z } = self;
         Point { x, y, z }
+    }
+
+    /// The same point.
+    pub fn of(point: Point) -> PointNm
+        ensures { result ≡ point_told point }
+    {
+        let Point { x, y, z } = point;
+        PointNm { x, y, z }
     }
 }
 
