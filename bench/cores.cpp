@@ -6,6 +6,7 @@
 
 #include <cstdio>
 #include <cstdlib>
+#include <cstring>
 #include <ctime>
 #include <map>
 #include <mutex>
@@ -16,12 +17,20 @@ namespace {
 
 std::mutex lock;
 std::map<std::thread::id, double> scanning; // seconds of each thread
-std::vector<double> merging;                // seconds of each merge
+double sharing = 0;                         // of the one that shares out
+std::map<const void *, double> ready;       // after how many seconds a map can be where it is
 
 double seconds_of_thread() {
     timespec now{};
     clock_gettime(CLOCK_THREAD_CPUTIME_ID, &now);
     return static_cast<double>(now.tv_sec) + 1e-9 * static_cast<double>(now.tv_nsec);
+}
+
+/// What a map is known by, also when its handle has been moved.
+const void *key_of(const octofix_map *map) {
+    const void *key = nullptr;
+    std::memcpy(&key, map, sizeof key);
+    return key;
 }
 
 } // namespace
@@ -40,6 +49,7 @@ extern "C" std::uint32_t __wrap_octofix_scan(octofix_map *map, const octofix_pos
     const double spent = seconds_of_thread() - began;
     const std::lock_guard<std::mutex> held(lock);
     scanning[std::this_thread::get_id()] += spent;
+    ready[key_of(map)] += spent;
     return code;
 }
 
@@ -51,7 +61,8 @@ extern "C" std::uint32_t __wrap_octofix_merge(octofix_map *map, octofix_map *oth
     const std::uint32_t code = __real_octofix_merge(map, other, rule, details);
     const double spent = seconds_of_thread() - began;
     const std::lock_guard<std::mutex> held(lock);
-    merging.push_back(spent);
+    const double both = std::max(ready[key_of(map)], ready[key_of(other)]);
+    ready[key_of(map)] = std::max(both, sharing) + spent;
     return code;
 }
 
@@ -128,34 +139,34 @@ double longest_of_threads() {
     return longest;
 }
 
-/// The seconds of the merges that wait for each other: the longest one of each round.
-double merging_in_rounds(std::size_t threads) {
-    double all = 0;
-    auto first = merging.begin();
-    for (std::size_t left = threads; left > 1; left = (left + 1) / 2) {
-        const auto last = first + static_cast<std::ptrdiff_t>(left / 2);
-        all += *std::max_element(first, last);
-        first = last;
-    }
-    return all;
+/// After how many seconds the map of all regions can be ready: scans, and the merges behind them
+/// that wait for each other.
+double ready_at_last() {
+    double last = sharing;
+    for (const auto &[map, seconds] : ready) last = std::max(last, seconds);
+    return last;
 }
 
 /// Whether the maps are the same, and the speed-up is as it should be.
 bool is_fast(const char *name, const std::vector<look> &all, const octofix::bytes &wanted,
              double alone, unsigned threads) {
     scanning.clear();
-    merging.clear();
+    ready.clear();
+    sharing = 0;
     octofix::mapper mapper(0.05, octofix::default_odds, most, threads);
     const double began = seconds_of_thread();
     for (const look &it : all) mapper.add(it.from, it.points, it.how);
-    const double sharing = seconds_of_thread() - began;
+    {
+        const std::lock_guard<std::mutex> held(lock);
+        sharing = seconds_of_thread() - began;
+    }
     const bool is_same = mapper.finish().snapshot() == wanted;
-    const double longest = longest_of_threads(), merges = merging_in_rounds(threads);
-    const double faster = alone / (std::max(longest, sharing) + merges);
+    const double longest = longest_of_threads(), last = ready_at_last();
+    const double faster = alone / last;
     const double least = threads >= 8 ? 4 : threads >= 4 ? 2.8 : threads >= 2 ? 1.5 : 0;
-    std::printf("%s, %u threads: longest %.2f s, merges %.2f s, sharing out %.2f s; %.2f times as fast "
-                "(at least %.1f)%s\n",
-                name, threads, longest, merges, sharing, faster, least,
+    std::printf("%s, %u threads: longest %.2f s, merges behind it %.2f s, sharing out %.2f s; "
+                "%.2f times as fast (at least %.1f)%s\n",
+                name, threads, longest, last - std::max(longest, sharing), sharing, faster, least,
                 is_same ? "" : ", ANOTHER MAP");
     return is_same && faster >= least;
 }

@@ -4,8 +4,9 @@
 //     for (..) mapper.add(pose, octofix::metres(cloud));
 //     octofix::map world = mapper.finish();              // that of one thread, to the voxel
 //
-// Each thread has a map of a region, in which it does the beams of all scans that come near to it,
-// and finish() merges the maps. The regions are cut where the first scans walk through most, before
+// Each thread has a map of a region, in which it does the beams of all scans that come near to it.
+// Points are turned once for all of them. In finish() a thread that is done merges its map with that
+// of another one that is, while the others still map. The regions are cut where the first scans walk through most, before
 // which no scan is done; the later ones are done as fast where they go there, too.
 #ifndef OCTOFIX_MAPPER_HPP
 #define OCTOFIX_MAPPER_HPP
@@ -18,6 +19,8 @@
 #include <cstddef>
 #include <exception>
 #include <memory>
+#include <mutex>
+#include <optional>
 #include <stdexcept>
 #include <thread>
 #include <utility>
@@ -73,8 +76,10 @@ class mapper {
     /// others may have done the scan: this call, or a later one, throws that, and each after it.
     void add(const pose &sensor, std::vector<point> points, const scan_options &how = {}) {
         check();
-        judge_.scan(sensor, points, how);
-        if (threads_ > 1) try_it([&] { accept({sensor, how, std::move(points)}); });
+        detail::sighting seen{sensor, how, std::move(points)};
+        if (threads_ > 1) try_it([&] { seen = detail::upright(std::move(seen)); });
+        judge_.scan(seen.sensor, seen.points, how);
+        if (threads_ > 1) try_it([&] { accept(std::move(seen)); });
     }
 
     /// The map of all scans. There are no more after it.
@@ -84,10 +89,10 @@ class mapper {
             try_it([&] {
                 if (!crew_) begin();
                 crew_->finish();
-                join();
+                joined_->no_limit();
             });
         is_finished_ = true;
-        return std::move(threads_ > 1 ? maps_.front() : judge_);
+        return std::move(threads_ > 1 ? *joined_ : judge_);
     }
 
   private:
@@ -126,7 +131,8 @@ class mapper {
             tasks.push_back([this, i](const detail::shares &it) {
                 maps_[i].scan(it.sensor, it.points[i], it.how);
             });
-        crew_ = std::make_unique<detail::crew<detail::shares>>(std::move(tasks));
+        crew_ = std::make_unique<detail::crew<detail::shares>>(
+            std::move(tasks), [this](std::size_t i) { join(std::move(maps_[i])); });
         for (const detail::sighting &it : std::exchange(first_, {})) put(it);
     }
     std::vector<detail::region> regions() const {
@@ -142,13 +148,17 @@ class mapper {
         const std::size_t size = all->size();
         crew_->put(std::move(all), size);
     }
-    /// Merges all maps into the first, by pairs.
-    void join() {
-        for (std::size_t step = 1; step < maps_.size(); step *= 2)
-            detail::side_by_side((maps_.size() + step - 1) / (2 * step), [&](std::size_t i) {
-                detail::take(maps_[2 * i * step], maps_[(2 * i + 1) * step]);
-            });
-        maps_.front().no_limit();
+    /// Merges a map with those that other threads have laid down, and lays it down itself where
+    /// there is none.
+    void join(map own) {
+        while (std::optional<map> other = taken_or_laid(own)) detail::take(own, *other);
+    }
+    /// The map that lies there; or that place takes this one.
+    std::optional<map> taken_or_laid(map &own) {
+        const std::lock_guard<std::mutex> held(joining_);
+        std::optional<map> there = std::exchange(joined_, std::nullopt);
+        if (!there) joined_ = std::move(own);
+        return there;
     }
 
     unsigned threads_;
@@ -162,6 +172,8 @@ class mapper {
     std::exception_ptr fault_;
     std::vector<detail::region> regions_;
     std::vector<map> maps_;
+    std::mutex joining_;
+    std::optional<map> joined_; // of threads that are done
     std::unique_ptr<detail::crew<detail::shares>> crew_; // (it ends before the maps do)
 };
 

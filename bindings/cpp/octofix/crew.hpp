@@ -16,39 +16,18 @@
 
 namespace octofix::detail {
 
-/// Calls work(0) to work(count - 1), each in a thread of its own; throws what one of them throws.
-template <class Work> void side_by_side(std::size_t count, Work work) {
-    std::vector<std::exception_ptr> faults(count);
-    std::vector<std::thread> threads;
-    const auto try_one = [&](std::size_t i) {
-        try {
-            work(i);
-        } catch (...) {
-            faults[i] = std::current_exception();
-        }
-    };
-    try {
-        threads.reserve(count);
-        for (std::size_t i = 1; i < count; ++i) threads.emplace_back(try_one, i);
-    } catch (...) {
-        for (std::thread &it : threads) it.join();
-        throw;
-    }
-    if (count > 0) try_one(0);
-    for (std::thread &it : threads) it.join();
-    for (const std::exception_ptr &it : faults)
-        if (it) std::rethrow_exception(it);
-}
-
-/// Does each item in each thread, by a task of the thread's own. What a task throws ends all of
-/// them, and is thrown by each later call.
+/// Does each item in each thread, by a task of the thread's own, and then what each thread does
+/// last. What one of these throws ends all threads, and is thrown by each later call.
 template <class Item> class crew {
   public:
     using task = std::function<void(const Item &)>;
+    using last_task = std::function<void(std::size_t)>; ///< is told the number of the thread
 
     /// What waits for the slowest thread, beside one item, has at most this size.
-    explicit crew(std::vector<task> tasks, std::size_t most_waiting = std::size_t{1} << 21)
-        : tasks_(std::move(tasks)), most_waiting_(most_waiting), done_(tasks_.size(), 0) {
+    explicit crew(std::vector<task> tasks, last_task last = {},
+                  std::size_t most_waiting = std::size_t{1} << 21)
+        : tasks_(std::move(tasks)), last_(std::move(last)), most_waiting_(most_waiting),
+          done_(tasks_.size(), 0) {
         try {
             for (std::size_t i = 0; i < tasks_.size(); ++i)
                 threads_.emplace_back([this, i] { work(i); });
@@ -70,10 +49,12 @@ template <class Item> class crew {
         waiting_ += size;
         moved_.notify_all();
     }
-    /// Waits until all is done.
+    /// Waits until all is done. There are no more items.
     void finish() {
         std::unique_lock<std::mutex> lock(mutex_);
-        moved_.wait(lock, [&] { return is_over_ || items_.empty(); });
+        is_closed_ = true;
+        moved_.notify_all();
+        moved_.wait(lock, [&] { return is_over_ || ended_ == tasks_.size(); });
         if (fault_) std::rethrow_exception(fault_);
     }
 
@@ -91,6 +72,7 @@ template <class Item> class crew {
                 tasks_[number](*item);
                 count(number);
             }
+            end(number);
         } catch (...) {
             const std::lock_guard<std::mutex> lock(mutex_);
             if (!fault_) fault_ = std::current_exception();
@@ -98,11 +80,22 @@ template <class Item> class crew {
             moved_.notify_all();
         }
     }
-    /// The next item of a thread; none where all is over.
+    /// The next item of a thread; none where all is over, or it has done the last one.
     std::shared_ptr<const Item> next(std::size_t number) {
         std::unique_lock<std::mutex> lock(mutex_);
-        moved_.wait(lock, [&] { return is_over_ || done_[number] < gone_ + items_.size(); });
-        return is_over_ ? nullptr : items_[done_[number] - gone_].item;
+        const auto has_more = [&] { return done_[number] < gone_ + items_.size(); };
+        moved_.wait(lock, [&] { return is_over_ || has_more() || is_closed_; });
+        return is_over_ || !has_more() ? nullptr : items_[done_[number] - gone_].item;
+    }
+    /// Does what a thread does last, where not all is over.
+    void end(std::size_t number) {
+        std::unique_lock<std::mutex> lock(mutex_);
+        if (is_over_) return;
+        lock.unlock();
+        if (last_) last_(number);
+        lock.lock();
+        ++ended_;
+        moved_.notify_all();
     }
     void count(std::size_t number) {
         const std::lock_guard<std::mutex> lock(mutex_);
@@ -124,14 +117,16 @@ template <class Item> class crew {
     }
 
     std::vector<task> tasks_;
+    last_task last_;
     std::size_t most_waiting_;
     std::mutex mutex_;
     std::condition_variable moved_; // what follows has changed, but for the threads
     std::deque<entry> items_;
     std::size_t waiting_ = 0, gone_ = 0; // sizes of items; how many all threads have done
     std::vector<std::size_t> done_;      // how many each
+    std::size_t ended_ = 0;              // how many threads have done all
     std::exception_ptr fault_;
-    bool is_over_ = false;
+    bool is_closed_ = false, is_over_ = false;
     std::vector<std::thread> threads_;
 };
 

@@ -13,6 +13,7 @@
 #include <cstdint>
 #include <numeric>
 #include <optional>
+#include <utility>
 #include <vector>
 
 namespace octofix::detail {
@@ -23,6 +24,28 @@ struct sighting {
     scan_options how;
     std::vector<point> points;
 };
+
+/// Whether a sensor's axes are those of the map.
+inline bool is_upright(const pose &it) { return it.x == 0 && it.y == 0 && it.z == 0; }
+
+/// What was seen, along the axes of the map, so that points are turned once for all regions. What
+/// can't be turned stays as it is: it is refused, or points are 10,000 km away.
+inline sighting upright(sighting seen) {
+    if (is_upright(seen.sensor)) return seen;
+    const pose &from = seen.sensor;
+    const std::size_t size = seen.points.size();
+    std::vector<point> ways(size + 1);
+    details named{};
+    const pose turn = {{0, 0, 0}, from.w, from.x, from.y, from.z};
+    if (octofix_place(&turn, start<point>(seen.points), size, ways.data(), size, &named) != 0)
+        return seen;
+    ways.pop_back();
+    constexpr std::int64_t reach = 10'000'000'000'000'000;
+    const auto is_far = [](std::int64_t it) { return it >= reach || it <= -reach; };
+    for (const point &it : ways)
+        if (is_far(it.x) || is_far(it.y) || is_far(it.z)) return seen;
+    return {{from.at, 1, 0, 0, 0}, seen.how, std::move(ways)};
+}
 
 /// At how many places of a beam it is looked which voxels are there.
 inline constexpr std::size_t places = 16;
@@ -49,6 +72,8 @@ using vector_3 = std::array<double, 3>;
 
 /// A point of the sensor's frame along the axes of the map.
 inline vector_3 turned(const pose &by, const point &it) {
+    if (is_upright(by))
+        return {static_cast<double>(it.x), static_cast<double>(it.y), static_cast<double>(it.z)};
     const double w = by.w, x = by.x, y = by.y, z = by.z, n = w * w + x * x + y * y + z * z;
     const auto px = static_cast<double>(it.x), py = static_cast<double>(it.y),
                pz = static_cast<double>(it.z);

@@ -2,13 +2,16 @@
 // what it throws.
 #include <octofix_mapper.hpp>
 
+#include <algorithm>
 #include <array>
+#include <atomic>
 #include <chrono>
 #include <cstdio>
 #include <cstdlib>
 #include <new>
 #include <optional>
 #include <random>
+#include <string>
 
 /// How many requests of this thread are granted before one that isn't; none isn't where it is
 /// below 0.
@@ -50,7 +53,8 @@ std::vector<octofix::point> cloud(std::mt19937 &random, std::size_t size) {
     return points;
 }
 
-/// Scans of all kinds: turned, cut, lazy, with log-odds of their own, and without points.
+/// Scans of all kinds: turned, cut, lazy, with log-odds of their own, without points, and such as
+/// are refused.
 std::vector<look> looks(unsigned seed) {
     std::mt19937 random(seed);
     std::uniform_real_distribution<double> draw(-1, 1);
@@ -65,6 +69,40 @@ std::vector<look> looks(unsigned seed) {
         all.push_back(it);
     }
     return all;
+}
+
+/// Scans that are refused: by the place of the sensor, a point, the quaternion or the log-odds, some
+/// by several, of which the first counts; and two of points so far away that they can't be turned
+/// beforehand, the second of which isn't refused.
+std::vector<look> refused_looks() {
+    constexpr std::int64_t far = 10'000'000'000'000'000, less = far - 1;
+    const octofix::pose turned = {metres(1, 0, 0), 3, -1, 2, 0}, none = {{}, 0, 0, 0, 0};
+    octofix::pose away = turned, zero_away = none;
+    away.at.x = zero_away.at.x = far;
+    const octofix::point near = metres(1, 2, 0), beyond = {far, 0, 0}, last = {less, less, -less};
+    octofix::scan_options odd, cut;
+    odd.hit = -1;
+    cut.range = 2.5;
+    return {{turned, {near, metres(0, 9e6, 0)}, {}},
+            {turned, {near, near, beyond}, {}},
+            {away, {beyond}, {}},
+            {octofix::pose_at(9e6, 0, 0), {near}, {}},
+            {none, {near}, odd},
+            {zero_away, {near}, {}},
+            {none, {near, beyond}, {}},
+            {turned, {near}, odd},
+            {turned, {near, last}, {}},
+            {turned, {near, last}, cut}};
+}
+
+/// What a call says of a scan: its refusal, or nothing.
+template <class Call> std::string said_of(Call call) {
+    try {
+        call();
+    } catch (const octofix::refused &error) {
+        return error.what();
+    }
+    return {};
 }
 
 std::uint32_t code_of(octofix::mapper &to, const octofix::pose &from,
@@ -103,6 +141,52 @@ void try_same_maps() {
     }
 }
 
+/// Scans are refused for the same reasons, also between others, and what comes is the same, noted
+/// under a mark too.
+void try_same_refusals() {
+    std::vector<look> all = refused_looks();
+    for (const look &it : looks(7)) all.push_back(it), all.push_back(all[all.size() % 10]);
+    for (const unsigned threads : {1u, 3u}) {
+        octofix::map one(0.5), marked(0.5);
+        octofix::mapper mapper(0.5, octofix::default_odds, octofix::default_limits, threads, 20);
+        marked.track();
+        one.track();
+        int refused = 0;
+        for (const look &it : all) {
+            const std::string said = said_of([&] { one.scan(it.from, it.points, it.how); });
+            EXPECT(said_of([&] { mapper.add(it.from, it.points, it.how); }) == said);
+            refused += !said.empty();
+        }
+        EXPECT(refused > 9 && refused < static_cast<int>(all.size()) - 8);
+        octofix::map came = mapper.finish();
+        EXPECT(came.snapshot() == one.snapshot());
+        marked.merge(came);
+        const auto wanted = one.changes(), changes = marked.changes();
+        const auto is_same = [](const octofix::change &a, const octofix::change &b) {
+            return a.key.x == b.key.x && a.key.y == b.key.y && a.key.z == b.key.z &&
+                   a.kind == b.kind;
+        };
+        EXPECT(!wanted.empty() && std::equal(wanted.begin(), wanted.end(), changes.begin(),
+                                             changes.end(), is_same));
+    }
+}
+
+/// What each thread does last, once it has done all items.
+void try_last_tasks() {
+    std::array<std::atomic<int>, 2> done{}, at_last{};
+    const auto count = [&](std::size_t i) { return [&, i](const int &) { ++done[i]; }; };
+    octofix::detail::crew<int> both({count(0), count(1)},
+                                    [&](std::size_t i) { at_last[i] = done[i].load(); });
+    for (int i = 0; i < 5; ++i) both.put(std::make_shared<const int>(i), 1);
+    both.finish();
+    EXPECT(at_last[0] == 5 && at_last[1] == 5);
+    octofix::detail::crew<int> torn({count(0), count(1)}, [&](std::size_t i) {
+        if (i == 1) throw std::bad_alloc();
+    });
+    EXPECT(throws<std::bad_alloc>([&] { torn.finish(); }));
+    EXPECT(throws<std::bad_alloc>([&] { torn.put(std::make_shared<const int>(0), 1); }));
+}
+
 /// More items than may wait for the slower of two threads.
 void try_crew() {
     std::array<std::vector<int>, 2> done;
@@ -111,7 +195,7 @@ void try_crew() {
                                          std::this_thread::sleep_for(std::chrono::milliseconds(1));
                                          done[1].push_back(it);
                                      }},
-                                    3);
+                                    {}, 3);
     std::vector<int> all;
     for (int i = 0; i < 20; ++i) {
         all.push_back(i);
@@ -202,7 +286,9 @@ void try_ends() {
 
 int main() {
     try_same_maps();
+    try_same_refusals();
     try_crew();
+    try_last_tasks();
     try_refusals();
     try_full();
     try_more_room();

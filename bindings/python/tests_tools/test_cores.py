@@ -124,8 +124,48 @@ class Jobs(InFolder):
             words = ["map", "--res", 0.2, "--jobs", 2, *CLOUDS[:3], "-o", "a.bt"]
             self.refused("memory ran out", *words)
 
+    def test_no_memory_for_a_merge(self):
+        save_drive(np.random.default_rng(1))
+        with mock.patch.object(Map, "merge", side_effect=MemoryError):
+            words = ["map", "--res", 0.2, "--jobs", 3, *CLOUDS[:3], "-o", "a.bt"]
+            self.refused("memory ran out", *words)
+        self.assertFalse(os.path.exists("a.bt"))
+
 
 class Crew(unittest.TestCase):
+    def test_what_threads_do_last(self):
+        """Each does it once, behind its last item, also while others are at work."""
+        is_free, has_ended, done = threading.Event(), threading.Event(), ([], [])
+
+        def slow(item):
+            is_free.wait(10)
+            done[1].append(item)
+
+        def end(number):
+            done[number].append("end")
+            has_ended.set()
+
+        threads = crew.Crew([done[0].append, slow], end)
+        for item in range(3):
+            threads.put(item, 1)
+        threads.close()
+        self.assertTrue(has_ended.wait(10))
+        self.assertEqual(done, ([0, 1, 2, "end"], []))
+        is_free.set()
+        while threads.catch_up():
+            pass
+        threads.finish()
+        self.assertEqual(done[1], [0, 1, 2, "end"])
+
+    def test_a_fault_at_last(self):
+        def end(number):
+            if number == 1:
+                raise MemoryError
+
+        threads = crew.Crew([len, len], end)
+        threads.close()
+        self.assertRaises(MemoryError, threads.finish)
+
     def test_what_waits_is_bounded(self):
         """Each item is done by both in its turn, and at most three wait for the slow one."""
         done, is_free = ([], []), threading.Semaphore(0)

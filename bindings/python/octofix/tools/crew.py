@@ -8,11 +8,12 @@ MOST_WAITING = 1 << 21
 
 
 class Crew:
-    """Does each item in each thread, with a task of the thread's own. What a task raises ends all
-    of them, and is raised by the next call."""
+    """Does each item in each thread, with a task of the thread's own, and then what each thread
+    does last. What one of these raises ends all threads, and is raised by the next call."""
 
-    def __init__(self, tasks):
-        """tasks: a function of an item for each thread."""
+    def __init__(self, tasks, last=lambda number: None):
+        """tasks: a function of an item for each thread; last: is told the thread's number."""
+        self.last, self.is_closed, self.ended = last, False, 0
         self.moved = threading.Condition()
         self.items, self.waiting, self.finished = deque(), 0, []
         # How many items all threads have done, and how many each.
@@ -29,6 +30,17 @@ class Crew:
             self.items.append((item, size))
             self.waiting += size
             self.moved.notify_all()
+
+    def close(self):
+        """No more items come, so that a thread that has done all does what it does last."""
+        with self.moved:
+            self.is_closed = True
+            self.moved.notify_all()
+
+    def finish(self):
+        """Waits until all threads have done what they do last."""
+        with self.moved:
+            self._wait(lambda: self.ended == len(self.done))
 
     def catch_up(self):
         """Waits until all threads have done one more item; False where none was left."""
@@ -56,22 +68,37 @@ class Crew:
 
     def _work(self, number, task):
         try:
-            while not self.is_over:
+            while self._has_next(number):
                 self._do_next(number, task)
+            self._end(number)
         except BaseException as fault:
             self.stop(fault)
 
+    def _has_next(self, number):
+        """Waits for an item; False where all is over, or the thread has done the last one."""
+        with self.moved:
+            self._wait(lambda: self.is_closed or self._is_behind(number))
+            return not self.is_over and self._is_behind(number)
+
+    def _is_behind(self, number):
+        return self.done[number] < self.gone + len(self.items)
+
     def _do_next(self, number, task):
         with self.moved:
-            self._wait(lambda: self.done[number] < self.gone + len(self.items))
-            if self.is_over:
-                return
             item, _ = self.items[self.done[number] - self.gone]
         task(item)
         with self.moved:
             self.done[number] += 1
             while self.gone < min(self.done):
                 self._drop()
+            self.moved.notify_all()
+
+    def _end(self, number):
+        if self.is_over:
+            return
+        self.last(number)
+        with self.moved:
+            self.ended += 1
             self.moved.notify_all()
 
     def _drop(self):

@@ -1,6 +1,6 @@
 """A map of regions: one of them, or all of them by several threads."""
 
-from concurrent.futures import ThreadPoolExecutor
+import threading
 from dataclasses import replace
 
 from octofix import Map, Refused
@@ -57,7 +57,8 @@ class Judge(Mapper):
 
 class ParallelMapper:
     """Does scans as a Mapper does, by several threads, each with a map of a region, in which it
-    does the beams that come near to it.
+    does the beams that come near to it. Then one that is done merges its map with that of another
+    one that is, while others still map.
 
     What each region refuses is refused at once. A scan for which a region has no room or no memory
     ends all, since other regions may have done it."""
@@ -67,6 +68,8 @@ class ParallelMapper:
         self.new_map, self.count, self.reach = new_map, count, reach
         self.judge, self.crew = Judge(new_map(), reach, script), None
         self.regions, self.worlds = [], []
+        # The map of threads that are done, and who may take it.
+        self.laid, self.laying = None, threading.Lock()
 
     scans = property(lambda self: self.judge.scans)
     points = property(lambda self: self.judge.points)
@@ -80,7 +83,7 @@ class ParallelMapper:
             world = self.new_map()
             world.limit(*region.corners(edge))
             self.worlds.append(world)
-        self.crew = Crew([self._adder(*it) for it in enumerate(self.worlds)])
+        self.crew = Crew([self._adder(*it) for it in enumerate(self.worlds)], self._join)
 
     def add(self, scan):
         """Has a scan done, which may last until earlier ones are done."""
@@ -98,20 +101,37 @@ class ParallelMapper:
         return self.crew.take_finished() if self.crew else []
 
     def catch_up(self):
-        return bool(self.crew) and self.crew.catch_up()
+        """Waits also for the merges, behind the last scan."""
+        if not self.crew:
+            return False
+        self.crew.close()
+        if self.crew.catch_up():
+            return True
+        self.crew.finish()
+        return False
 
     def stop(self):
         if self.crew:
             self.crew.stop()
 
     def joined(self):
-        """The map of all regions."""
-        while len(self.worlds) > 1:
-            ones, others = self.worlds[::2], self.worlds[1::2]
-            with ThreadPoolExecutor(len(others)) as pool:
-                self.worlds = [*pool.map(_joined, ones, others), *ones[len(others) :]]
-        self.worlds[0].no_limit()
-        return self.worlds[0]
+        self.laid.no_limit()
+        return self.laid
+
+    def _join(self, number):
+        """Merges a thread's map with those that others have laid down, and lays it down itself
+        where there is none."""
+        own = self.worlds[number]
+        while (other := self._taken_or_laid(own)) is not None:
+            own = _joined(own, other)
+
+    def _taken_or_laid(self, own):
+        """The map that lies there; else None, and this one lies there."""
+        with self.laying:
+            there, self.laid = self.laid, None
+            if there is None:
+                self.laid = own
+            return there
 
 
 def _joined(one, other):
