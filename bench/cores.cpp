@@ -1,9 +1,11 @@
-// cores THREADS..: makes maps of scans in a hall and of a lidar in a street, at 0.05 m, by one map
-// and by octofix::mapper with so many threads, and compares them. Times are those that a processor
-// has spent in a thread. Linked with --wrap=octofix_scan,--wrap=octofix_merge. Fails where a map
-// differs, or where a speed-up is below its limit.
+// cores RUNS THREADS..: makes maps of scans in a hall and of a lidar in a street, at 0.05 m, by one
+// map and by octofix::mapper with so many threads, and compares them. Times are those that a
+// processor has spent in a thread, medians of so many runs. Linked with
+// --wrap=octofix_scan,--wrap=octofix_merge. Fails where a map differs, or where a speed-up is below
+// its limit.
 #include <octofix_mapper.hpp>
 
+#include <algorithm>
 #include <cstdio>
 #include <cstdlib>
 #include <cstring>
@@ -147,47 +149,72 @@ double ready_at_last() {
     return last;
 }
 
-/// Whether the maps are the same, and the speed-up is as it should be.
-bool is_fast(const char *name, const std::vector<look> &all, const octofix::bytes &wanted,
-             double alone, unsigned threads) {
+/// What maps of one scene took in each run, in seconds, by the number of threads; by 1 alone.
+struct times {
+    std::map<unsigned, std::vector<double>> longest, sharing, last;
+};
+
+/// Makes the map by one thread, and then by each number of threads; whether all are the same.
+bool run(const std::vector<look> &all, const std::vector<unsigned> &threads, times &taken) {
+    octofix::map world(0.05, octofix::default_odds, most);
     scanning.clear();
-    ready.clear();
-    sharing = 0;
-    octofix::mapper mapper(0.05, octofix::default_odds, most, threads);
-    const double began = seconds_of_thread();
-    for (const look &it : all) mapper.add(it.from, it.points, it.how);
-    {
-        const std::lock_guard<std::mutex> held(lock);
-        sharing = seconds_of_thread() - began;
+    for (const look &it : all) world.scan(it.from, it.points, it.how);
+    taken.last[1].push_back(scanning[std::this_thread::get_id()]);
+    const octofix::bytes wanted = world.snapshot();
+    bool is_same = true;
+    for (const unsigned number : threads) {
+        scanning.clear();
+        ready.clear();
+        sharing = 0;
+        octofix::mapper mapper(0.05, octofix::default_odds, most, number);
+        const double began = seconds_of_thread();
+        for (const look &it : all) mapper.add(it.from, it.points, it.how);
+        {
+            const std::lock_guard<std::mutex> held(lock);
+            sharing = seconds_of_thread() - began;
+        }
+        is_same &= mapper.finish().snapshot() == wanted;
+        taken.longest[number].push_back(longest_of_threads());
+        taken.sharing[number].push_back(sharing);
+        taken.last[number].push_back(ready_at_last());
     }
-    const bool is_same = mapper.finish().snapshot() == wanted;
-    const double longest = longest_of_threads(), last = ready_at_last();
-    const double faster = alone / last;
+    return is_same;
+}
+
+double median(std::vector<double> all) {
+    std::sort(all.begin(), all.end());
+    return all[all.size() / 2];
+}
+
+/// Whether so many threads are as fast as they should be.
+bool is_fast(const char *name, times &taken, unsigned threads) {
+    const double alone = median(taken.last[1]), last = median(taken.last[threads]);
     const double least = threads >= 8 ? 4 : threads >= 4 ? 2.8 : threads >= 2 ? 1.5 : 0;
-    std::printf("%s, %u threads: longest %.2f s, merges behind it %.2f s, sharing out %.2f s; "
-                "%.2f times as fast (at least %.1f)%s\n",
-                name, threads, longest, last - std::max(longest, sharing), sharing, faster, least,
-                is_same ? "" : ", ANOTHER MAP");
-    return is_same && faster >= least;
+    std::printf("%s, one map %.2f s, %u threads %.2f s: the longest %.2f s, the one that shares out "
+                "%.2f s; %.2f times as fast (at least %.1f)\n",
+                name, alone, threads, last, median(taken.longest[threads]),
+                median(taken.sharing[threads]), alone / last, least);
+    return alone / last >= least;
 }
 
 } // namespace
 
 int main(int count, char **words) {
+    if (count < 3) return 2;
+    std::vector<unsigned> threads;
+    for (int i = 2; i < count; ++i) threads.push_back(static_cast<unsigned>(std::atoi(words[i])));
     bool is_right = true;
     for (const bool is_hall : {true, false}) {
         const char *name = is_hall ? "hall" : "street";
         const std::vector<look> all = is_hall ? hall() : street();
-        octofix::map world(0.05, octofix::default_odds, most);
-        scanning.clear();
-        for (const look &it : all) world.scan(it.from, it.points, it.how);
-        const double alone = scanning[std::this_thread::get_id()];
-        std::printf("%s, one map: %.2f s\n", name, alone);
-        const octofix::bytes wanted = world.snapshot();
-        for (int i = 1; i < count; ++i) {
-            const auto threads = static_cast<unsigned>(std::atoi(words[i]));
-            is_right &= is_fast(name, all, wanted, alone, threads);
+        times taken;
+        for (int i = 0; i < std::atoi(words[1]); ++i) {
+            if (run(all, threads, taken)) continue;
+            std::printf("%s: another map\n", name);
+            is_right = false;
         }
+        for (const unsigned number : threads) is_right &= is_fast(name, taken, number);
+        std::fflush(stdout);
     }
     return is_right ? 0 : 1;
 }
