@@ -1,6 +1,6 @@
 //! A point turned by a quaternion of whole numbers, with each coordinate rounded once.
 ghost use Rattle.std.specs.Prelude.{◌≡◌, ◌^◌, ◌*◌, ◌<◌, ◌≤◌, pos, ◌+ℤ◌, ◌-ℤ◌, ◌*ℤ◌, ◌≤ℤ◌};
-ghost use Rattle.std.specs.Prelude.{unsigned_abs};
+ghost use Rattle.std.specs.Prelude.{unsigned_abs, IsTrue};
 ghost use Rattle.oct_num.specs.Rounding.{half_up};
 ghost use Rattle.oct_pose.specs.Reach.{IsInReach, IsZero};
 ghost use Rattle.oct_pose.specs.Rotation.{norm, x_row, y_row, z_row, weighted, rotated, IsBounded};
@@ -36,12 +36,34 @@ impl Quaternion {
         ensures y { unsigned_abs result.y ≤ 3 * 10 ^ 16 }
         ensures z { unsigned_abs result.z ≤ 3 * 10 ^ 16 }
     {
+        if self.is_upright() {
+            return p;
+        }
+        self.rotate_by_rows(p)
+    }
+
+    /// The same by the rows of factors, whatever the quaternion.
+    fn rotate_by_rows(self, p: Point) -> Point
+        requires turns { ¬ IsZero self.w self.x self.y self.z }
+        requires reach { IsInReach p }
+        ensures exact { result ≡ rotated self p }
+        ensures x { unsigned_abs result.x ≤ 3 * 10 ^ 16 }
+        ensures y { unsigned_abs result.y ≤ 3 * 10 ^ 16 }
+        ensures z { unsigned_abs result.z ≤ 3 * 10 ^ 16 }
+    {
         let norm = self.norm();
         Point {
             x: self.x_row().coordinate(norm, p),
             y: self.y_row().coordinate(norm, p),
             z: self.z_row().coordinate(norm, p),
         }
+    }
+
+    /// Whether it turns nothing, so that nothing has to be reckoned.
+    fn is_upright(self) -> bool
+        ensures { IsTrue result → (self.x ≡ pos 0) × (self.y ≡ pos 0) × (self.z ≡ pos 0) }
+    {
+        self.x == 0 && self.y == 0 && self.z == 0
     }
 
     /// The square of the quaternion's length.

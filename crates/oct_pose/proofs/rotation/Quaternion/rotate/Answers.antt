@@ -1,22 +1,9 @@
-use Rattle.std.proofs.Common.{rules, ◌≡◌, SFits, w64, to_z-of_z}
-use Rattle.oct_pose.specs.Rotation.{norm}
+use Rattle.std.proofs.Common.{sym}
 use Rattle.oct_pose.proofs.Turns.{norm_positive}
+use Rattle.oct_pose.proofs.Upright.{upright_stays}
 use Rattle.oct_pose.proofs.rotation.Quaternion.rotate.Goals as goal
 
-pub coordinate-requires-clause-positive : goal.coordinate-requires-clause-positive
-coordinate-requires-clause-positive c =
-    let fits : SFits w64 c.norm-norm.result = search rules in
-    let is : c.norm-norm.result ≡ norm c.args.self = search rules in
-    simp to_z-of_z (rw is (norm_positive c.args.self c.requires.turns))
-
-pub coordinate-requires-2-clause-positive : goal.coordinate-requires-2-clause-positive
-coordinate-requires-2-clause-positive c =
-    let fits : SFits w64 c.norm-norm.result = search rules in
-    let is : c.norm-norm.result ≡ norm c.args.self = search rules in
-    simp to_z-of_z (rw is (norm_positive c.args.self c.requires.turns))
-
-pub coordinate-requires-3-clause-positive : goal.coordinate-requires-3-clause-positive
-coordinate-requires-3-clause-positive c =
-    let fits : SFits w64 c.norm-norm.result = search rules in
-    let is : c.norm-norm.result ≡ norm c.args.self = search rules in
-    simp to_z-of_z (rw is (norm_positive c.args.self c.requires.turns))
+pub returns-then-is_upright-clause-exact : goal.returns-then-is_upright-clause-exact
+returns-then-is_upright-clause-exact c =
+    (let (x, y, z) = c.is_upright.ensures c.if-is_upright.true in
+    sym (upright_stays c.args.self c.args.p x y z (norm_positive c.args.self c.requires.turns)))
