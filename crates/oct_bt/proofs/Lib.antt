@@ -41,4 +41,4 @@ pub mod Answered
 pub mod RecordFronts
 pub mod FileFaults
 pub mod Tested
-pub mod Finals
+pub mod Keeping

@@ -40,6 +40,11 @@ after_byte start (Reads (depth ∷ others) (Some first) records) byte =
     after_record start depth others records first byte
 after_byte start (Stopped fault) byte = Stopped fault
 
+-- how many bytes are kept: those of the whole records
+abbrev pub data_kept : Progress → ℕ
+data_kept (Reads depths half records) = length records
+data_kept (Stopped fault) = 0
+
 -- before the first byte: the root's record is to come, where the size isn't 0
 abbrev pub at_first : ℕ → Progress
 at_first zero = Reads [] None []

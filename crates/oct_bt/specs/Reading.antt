@@ -1,10 +1,10 @@
 -- What a reader holds of a file, of which it keeps neither the lines nor the records' places.
-use Rattle.std.specs.Prelude.{codes, ◌≡◌, ℕ, ◌+◌, Bool, true, false, ◌&&◌, nat_lt, List, [], ◌∷◌}
-use Rattle.std.specs.Prelude.{◌++◌, length, drop, Option, Some, None, Result, Ok, Err}
+use Rattle.std.specs.Prelude.{codes, ◌≡◌, ℕ, ◌+◌, ◌<◌, Bool, true, false, ◌&&◌, nat_lt, List, []}
+use Rattle.std.specs.Prelude.{◌∷◌, ◌++◌, length, drop, fold, Option, Some, None, Result, Ok, Err}
 use Rattle.std.specs.Prelude.{if◌then◌else◌}
 use Rattle.std.specs.List.{slice_split}
 use Rattle.oct_bt.specs.declared.fault.BtFault.{BtFault}
-use Rattle.oct_bt.specs.NodeData.{Progress, after_bytes, after_byte, at_first}
+use Rattle.oct_bt.specs.NodeData.{Progress, after_bytes, after_byte, at_first, data_kept}
 use Rattle.oct_num.specs.Metres.{metres_of}
 use Rattle.oct_num.specs.Whole.{natural_of}
 use Rattle.oct_bt.specs.Header.{is_octree, resolution_of, Fields, Header, HeaderLine, is_line_feed}
@@ -140,9 +140,23 @@ after_file_byte (Refused fault) byte = Refused fault
 after_file_byte (Body header progress) byte = Body header (after_byte header.start progress byte)
 after_file_byte Spent byte = Spent
 
--- no byte changes what a file has come to: its fault has been met, or memory has run out
-abbrev pub IsFinal : FileProgress → Type 0
-IsFinal progress = (byte : ℕ) → after_file_byte progress byte ≡ progress
+-- how many bytes of a file are kept: those of the header's line that hasn't ended, and later those
+-- of the whole records
+abbrev pub bytes_kept : FileProgress → ℕ
+bytes_kept (Heading head) = length head.line
+bytes_kept (Refused fault) = 0
+bytes_kept (Body header progress) = data_kept progress
+bytes_kept Spent = 0
+
+-- a byte is kept: there is more to keep after it
+abbrev pub IsKept : FileProgress → ℕ → Type 0
+IsKept progress byte = bytes_kept progress < bytes_kept (after_file_byte progress byte)
+
+-- some byte of a piece is kept
+abbrev pub KeepsSome : FileProgress → List ℕ → Type 0
+KeepsSome progress piece = (front : List ℕ) × (byte : ℕ) × (rest : List ℕ)
+    × (piece ≡ front ++ byte ∷ rest)
+    × IsKept (fold after_file_byte progress front) byte
 
 -- the first fault if there is one, else the other
 abbrev pub fault_or : Option BtFault → BtFault → BtFault

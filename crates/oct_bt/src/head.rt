@@ -6,6 +6,7 @@ ghost use Rattle.oct_bt.specs.Header.{resolution_of, first_line_fault, is_data_l
 ghost use Rattle.oct_bt.specs.Header.{judged_fields};
 ghost use Rattle.oct_bt.specs.Reading.{Head, heading_of, longer_line, ended_line, closed_head};
 ghost use Rattle.oct_bt.specs.Reading.{head_fault, with_line, after_head_byte, after_take};
+ghost use Rattle.oct_bt.specs.Reading.{Heading};
 
 use crate::fault::{BtFault, HeaderWord};
 use crate::words::{split_word, trimmed};
@@ -202,13 +203,15 @@ impl Head {
         }
     }
 
-    /// Takes one more byte, and answers the header where it ends the data line.
+    /// Takes one more byte, and answers the header where it ends the data line. Memory runs out only
+    /// where the line goes on with it.
     pub(crate) fn take(&mut self, byte: u8) -> Result<Option<Result<Header, BtFault>>, Memory>
         ensures taken { IfOk result (λ ended.
             after_head_byte self.old byte ≡ after_take ended self.new) }
         ensures near { IfOk result (λ ended. IfSome ended
             (λ header. IfOk header (λ said. said.start ≤ 65536))) }
-        ensures memory { OnErr result (self.old.total < 65536) }
+        ensures memory { OnErr result
+            (after_head_byte self.old byte ≡ Heading (longer_line self.old byte)) }
     {
         if self.is_full() {
             return Ok(None);

@@ -1,9 +1,8 @@
 //! The reading of node data in pieces.
-ghost use Rattle.std.specs.Prelude.{◌≡◌, ◌≢◌, ◌≤◌, ◌<◌, ◌^◌, List, ℕ, OnOk, OnErr, IfOk};
+ghost use Rattle.std.specs.Prelude.{◌≡◌, ◌≤◌, ◌<◌, ◌^◌, List, ℕ, OnOk, OnErr, IfOk};
 ghost use Rattle.std.specs.Prelude.{Result, Ok, Err, []};
 ghost use Rattle.oct_bt.specs.NodeData.{HasRead, after_byte, read_nodes};
-ghost use Rattle.oct_bt.specs.NodeData.{IsAccepted, Stopped};
-ghost use Rattle.oct_bt.specs.declared.fault.BtFault.{BtFault};
+ghost use Rattle.oct_bt.specs.NodeData.{IsAccepted, data_kept};
 ghost use Rattle.oct_bt.specs.Canonical.{node_total};
 
 use crate::code_list::CodeList;
@@ -90,13 +89,14 @@ impl NodeReader {
         self.size
     }
 
-    /// Takes one more byte.
+    /// Takes one more byte. Memory runs out only where it ends a record that is kept.
     pub(crate) fn take(&mut self, byte: u8) -> Result<(), Memory>
         ensures start { self.new.start ≡ self.old.start }
         ensures size { self.new.size ≡ self.old.size }
         ensures taken { OnOk result
             (self.new.progress ≡ after_byte self.old.start self.old.progress byte) }
-        ensures memory { OnErr result ((fault : BtFault) → self.old.progress ≢ Stopped fault) }
+        ensures memory { OnErr result (data_kept self.old.progress
+            < data_kept (after_byte self.old.start self.old.progress byte)) }
     {
         if self.stop.is_some() {
             return Ok(());

@@ -5,7 +5,7 @@ ghost use Rattle.oct_values.specs.Classes.{Classes};
 ghost use Rattle.oct_bt.specs.Canonical.{canonical_data};
 ghost use Rattle.oct_bt.specs.File.{reading, file_with};
 ghost use Rattle.oct_bt.specs.NodeData.{HasRead, IsDataOf, read_nodes};
-ghost use Rattle.oct_bt.specs.Reading.{FileProgress, IsFinal, Spent, StandsFor, opened};
+ghost use Rattle.oct_bt.specs.Reading.{FileProgress, IsKept, KeepsSome, Spent, StandsFor, opened};
 ghost use Rattle.oct_bt.specs.Reading.{after_file_byte};
 ghost use Rattle.oct_bt.specs.Holding.{progress_of};
 
@@ -62,7 +62,7 @@ impl Reader {
     /// Takes one more byte.
     fn take(&mut self, byte: u8) -> Result<(), Memory>
         ensures taken { OnOk result (self.new ≡ after_file_byte self.old byte) }
-        ensures memory { IsFinal self.old → OnErr result (self.old ≡ Spent) }
+        ensures memory { OnErr result ((self.old ≡ Spent) ⊎ IsKept self.old byte) }
     {
         match &mut self.state {
             State::InHead(head) => {
@@ -87,16 +87,15 @@ impl Reader {
         }
     }
 
-    /// Takes a piece more, however the file is cut. An empty one needs no memory, and neither does
-    /// any piece after a fault that no further byte changes. After `Memory` every later call
-    /// answers it.
+    /// Takes a piece more, however the file is cut. Memory runs out only where a byte of it is kept:
+    /// one of a header's line, or the second one of a record, and none after a fault that no further
+    /// byte changes. After `Memory` every later call answers it.
     pub fn feed(&mut self, piece: &[u8]) -> Result<(), Memory>
         ensures reads { OnOk result ((text : List ℕ) → StandsFor self.old text
             → StandsFor self.new (text ++ piece.now)) }
         ensures spent { OnErr result (self.new ≡ Spent) }
         ensures stays { self.old ≡ Spent → IsErr result }
-        ensures empty { piece.now ≡ [] → OnErr result (self.old ≡ Spent) }
-        ensures memory { IsFinal self.old → OnErr result (self.old ≡ Spent) }
+        ensures memory { OnErr result ((self.old ≡ Spent) ⊎ KeepsSome self.old piece.now) }
     {
         if self.is_spent() {
             return Err(Memory);

@@ -1,14 +1,14 @@
-use Rattle.std.proofs.Common.{rules, ◌≡◌, ◌≢◌, ◌++◌, ℕ, [], length, ◌+◌, ◌<◌, ◌∷◌, Some, None, false}
+use Rattle.std.proofs.Common.{rules, ◌≡◌, ◌++◌, ℕ, [], length, ◌+◌, ◌<◌, ◌∷◌, Some, None, false}
 use Rattle.std.proofs.Common.{subst, sym, ap, ◌∙◌, arith, inl, inr}
-use Rattle.std.specs.Prelude.{is_some, replicate}
-use Rattle.oct_bt.specs.NodeData.{Reading, Reads, Stopped, after_byte, progress_by, records_in}
+use Rattle.std.specs.Prelude.{is_some, replicate, Option}
+use Rattle.oct_bt.specs.NodeData.{Reading, Reads, Stopped, after_byte, data_kept, progress_by}
+use Rattle.oct_bt.specs.NodeData.{records_in}
 use Rattle.oct_bt.specs.Path.{pending_at, without_next}
-use Rattle.oct_bt.specs.declared.fault.BtFault.{BtFault}
 use Rattle.oct_bt.specs.declared.fault.BtFault.TheVariants.{TooDeep, TrailingBytes}
 use Rattle.oct_bt.proofs.Steps.{byte_trails, byte_begins, byte_deep, byte_ends, never_some}
 use Rattle.oct_bt.proofs.Endings.{reached_next}
 use Rattle.oct_num.proofs.Results.{on_any_err}
-use Rattle.oct_bt.proofs.Finals.{still_reads}
+use Rattle.oct_bt.proofs.Keeping.{record_kept}
 use Rattle.oct_bt.proofs.node_reader.NodeReader.take.Goals as goal
 
 pub returns-then-is_empty-clause-taken : goal.returns-then-is_empty-clause-taken
@@ -97,10 +97,29 @@ returns-clause-taken c =
 
 pub returns-in_err-push-clause-memory : goal.returns-in_err-push-clause-memory
 returns-in_err-push-clause-memory c =
+    let going_on : is_some c.self.inside.stop ≡ false = sym c.is_some.ensures ∙ c.if-is_some.false
+    in
+    let some : 0 < length c.self.inside.path.items = search rules in
+    let high : length c.self.inside.path.items ≡ 16 → records_in c.in-Some.first c.args.byte ≡ 0 =
+    λ deep.
+    elim c.else-len-eq16.either [
+      | inl w ↦ (let count = c.records_in-deeper.ensures.count in let few = w.1 in
+          omega arith)
+      | inr other ↦ absurd (other (c.len-2.ensures.value ∙ deep))
+    ] in
+    let kept = record_kept c.self.inside.stop (pending_at 0 c.self.inside.path.items) _
+    c.self.inside.records (Some c.in-Some.first) c.in-Some.first c.args.byte c.self.inside.start
+    going_on
+    (byte_ends c.self.inside.start c.self.inside.stop c.self.inside.path.items
+    c.self.inside.records c.in-Some.first c.args.byte going_on some c.self.invariant.0 high) in
     on_any_err c.from_residual.result _
-    (subst (λ (r : Reading). (fault : BtFault) → r.progress ≢ Stopped fault) c.self.view_is
-    (still_reads c.self.inside.stop (pending_at 0 c.self.inside.path.items) c.self.inside.half
-    c.self.inside.records (sym c.is_some.ensures ∙ c.if-is_some.false)))
+    (subst (λ (r : Reading). data_kept r.progress
+    < data_kept (after_byte r.start r.progress c.args.byte)) c.self.view_is
+    (subst (λ (half : Option ℕ). data_kept (progress_by c.self.inside.stop
+    (Reads (pending_at 0 c.self.inside.path.items) half c.self.inside.records))
+    < data_kept (after_byte c.self.inside.start (progress_by c.self.inside.stop
+    (Reads (pending_at 0 c.self.inside.path.items) half c.self.inside.records)) c.args.byte))
+    (sym c.in-Some.is) kept))
 
 pub invariant_of-self : goal.invariant_of-self
 invariant_of-self c =
