@@ -23,7 +23,7 @@ debian)
     up=../../..
     ;;
 *)
-    lib=lib packages=lib/python3 python='/usr/bin/env python3' zsh=share/zsh/site-functions
+    lib=lib packages=lib/python3 python=python3 zsh=share/zsh/site-functions
     # (these dollars are for pkg-config)
     pc_prefix='${pcfiledir}/../..' run_path='-Wl,-rpath,${libdir} '
     up=../..

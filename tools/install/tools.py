@@ -1,9 +1,17 @@
-#!@PYTHON@
+#!/bin/sh
 # The command octofix: the tools of the Python package that is installed beside it. Where this
 # Python has no numpy, the system's own one is tried.
 
+''':'
+# (for the shell: a Ctrl-C waits while Python starts, which else tells where it came)
+block=--block-signal=INT
+env "$block" true 2>/dev/null || block=
+exec env $block @PYTHON@ "$0" "$@"
+'''
+
 import importlib.util
 import os
+import signal
 import sys
 
 SYSTEM = "/usr/bin/python3"
@@ -26,6 +34,11 @@ if importlib.util.find_spec("numpy") is None:
         os.execv(SYSTEM, [SYSTEM, __file__, *sys.argv[1:]])
     stop("no python3 with numpy is here (in Debian python3-numpy)")
 
-from octofix.tools.command import main  # noqa: E402
+# (until the tools listen, Ctrl-C ends this without a word)
+if signal.getsignal(signal.SIGINT) is signal.default_int_handler:
+    signal.signal(signal.SIGINT, signal.SIG_DFL)
+signal.pthread_sigmask(signal.SIG_UNBLOCK, {signal.SIGINT})
 
-sys.exit(main())
+from octofix.tools.command import run  # noqa: E402
+
+run()

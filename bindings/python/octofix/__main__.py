@@ -1,12 +1,11 @@
 """`python3 -m octofix`: the tools' command."""
 
 import signal
-import sys
 
 # (until the tools listen, Ctrl-C ends this without a word)
 if signal.getsignal(signal.SIGINT) is signal.default_int_handler:
     signal.signal(signal.SIGINT, signal.SIG_DFL)
 
-from .tools.command import main  # noqa: E402
+from .tools.command import run  # noqa: E402
 
-sys.exit(main())
+run()

@@ -1,9 +1,11 @@
 """Each fault is said in one line, with its place, and nothing is written."""
 
 import gzip
+import importlib
 import io
 import json
 import os
+import sys
 from unittest import mock
 
 import numpy as np
@@ -287,6 +289,8 @@ class Words(InFolder):
         ):
             ran = self.done("map", "--res", 1, "-", "-o", "c.bt", option, word, status=2)
             self.assertTrue(ran.said.endswith(f"argument {option}: {said}\n"), ran.said)
+        ran = self.done("view", "a.bt", "--oblique", "--above", "high", "-o", "c.png", status=2)
+        self.assertTrue(ran.said.endswith("argument --above: 'high' is no number\n"), ran.said)
 
     def test_classes_under_the_name_of_a_snapshot(self):
         said = "is named as a snapshot, and a .bt file, which has classes alone, is written"
@@ -346,10 +350,13 @@ class Words(InFolder):
             ("nothing is known there", "view", "a.bt", "-o", "c.png", "--box", 5, 5, 5, 6, 6, 6),
             ("nothing is occupied there", "view", "empty.bt", "--oblique", "-o", "c.png"),
             ("--text shows a slice (--slice Z)", "view", "a.bt", "--text"),
+            ("--around and --above say where --oblique looks from", "view", "a.bt", "-o", "c.png",
+             "--above", 50),
             ("nothing is to be written (-o FILE, --text or --open)", "view", "a.bt"),
             ("the name of a file is empty (is a variable of the shell unset?)", "info", ""),
             ("the name of a file is empty (is a variable of the shell unset?)", "merge", "a.bt",
              "-o", ""),
+            ("the name of the folder is empty (is a variable of the shell unset?)", "example", ""),
             ("b.bt: its resolution is 0.25 m, and that of a.bt is 0.5 m", "compare", "a.bt",
              "b.bt"),
             ("the box is to be given (--box)", "crop", "a.bt", "-o", "c.bt"),
@@ -392,3 +399,22 @@ class Words(InFolder):
             ran = self.done("compare", "a.bt", "a.bt")
             said = b"distances: they need the Python library scipy (in Debian python3-scipy)"
             self.assertIn(said, ran.output)
+
+    def test_libraries_that_fail(self):
+        """What is there, and can't be loaded, isn't said to be missing."""
+        os.mkdir("PIL")
+        for fault, said in (
+            ("ImportError('libjpeg.so.62: failed to map\\nsegment')",
+             "libjpeg.so.62: failed to map segment"),
+            ("ModuleNotFoundError('no gadget', name='gadget')", "no gadget"),
+            ("ValueError('numpy.dtype size changed')", "numpy.dtype size changed"),
+        ):  # fmt: skip
+            with open("PIL/__init__.py", "w") as file:
+                file.write(f"raise {fault}\n")
+            importlib.invalidate_caches()
+            others = {it: module for it, module in sys.modules.items() if it[:3] != "PIL"}
+            with mock.patch.object(sys, "path", [os.getcwd(), *sys.path]), \
+                    mock.patch.dict(sys.modules, others, clear=True):  # fmt: skip
+                said = f"a PNG needs the Python library PIL, which can't be loaded: {said}"
+                self.refused(said, "view", "a.bt", "-o", "c.png", status=4)
+        self.assertFalse(os.path.exists("c.png"))

@@ -12,18 +12,20 @@ from unittest import mock
 from running import InFolder
 
 SIGNALS = (signal.SIGINT, signal.SIGTERM, signal.SIGHUP)
+# How a process ends by Ctrl-C, of which a shell makes the status 130.
+BY_CTRL_C = -signal.SIGINT
 # Scans that last, as a scan of very many beams does: the library is at work, and Python waits.
 SLOW = """
-import sys, time
+import time
 from octofix.tools import mapping
-from octofix.tools.command import main
+from octofix.tools.command import run
 scan = mapping.do_scan
 def slow(*words):
     print("begun", flush=True)
     time.sleep(%s)
     scan(*words)
 mapping.do_scan = slow
-sys.exit(main(sys.argv[1:]))
+run()
 """
 # A numpy during whose import Ctrl-C comes.
 INTERRUPTING = """
@@ -93,7 +95,7 @@ class Reading(Processes):
             held = self.opened()
             run.send_signal(it)
             said = f"octofix: stopped by {name} before the first scan: nothing is written\n"
-            self.ends(run, said)
+            self.ends(run, said, BY_CTRL_C if it == signal.SIGINT else 130)
             os.close(held)
             self.assertEqual(content_of("a.bt"), b"2 0 0\n")
 
@@ -138,7 +140,7 @@ class Reading(Processes):
         with open("numpy/__init__.py", "w") as file:
             file.write(INTERRUPTING)
         self.before.add("numpy")
-        self.ends(self.map("a.xyz"), "octofix: stopped by Ctrl-C\n")
+        self.ends(self.map("a.xyz"), "octofix: stopped by Ctrl-C\n", BY_CTRL_C)
         self.assertEqual(content_of("a.bt"), b"2 0 0\n")
 
 
@@ -174,7 +176,7 @@ class Scanning(Processes):
             run.send_signal(signal.SIGINT)
             said = "octofix: Ctrl-C waits for the running scan; a second Ctrl-C ends at once\n"
             said += "octofix: stopped by Ctrl-C: the map has the scans until then\n"
-            self.ends(run, said)
+            self.ends(run, said, BY_CTRL_C)
             self.assertEqual(content_of("a.bt"), content_of("wanted.bt"))
 
     def test_twice(self):
@@ -187,6 +189,14 @@ class Scanning(Processes):
         self.ends(run, "octofix: ended at once: nothing is written\n")
         self.assertLess(time.monotonic() - began, 10)
         self.assertEqual(content_of("a.bt"), b"2 0 0\n")
+
+    def test_ctrl_c_twice(self):
+        run = self.slow_map(60)
+        run.send_signal(signal.SIGINT)
+        said = "octofix: Ctrl-C waits for the running scan; a second Ctrl-C ends at once\n"
+        self.assertEqual(run.stderr.readline().decode(), said)
+        run.send_signal(signal.SIGINT)
+        self.ends(run, "octofix: ended at once: nothing is written\n", BY_CTRL_C)
 
     def test_a_terminal_that_is_closed(self):
         """Several SIGHUP are one."""

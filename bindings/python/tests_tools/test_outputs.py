@@ -177,7 +177,10 @@ class View(InFolder):
 
     def test_text(self):
         ran = self.done("view", "a.bt", "--slice", 0.2, "--text")
-        self.assertEqual(ran.output, b"\n\n#   .\n")
+        self.assertEqual((ran.output, ran.said), (b"\n\n#   .\n", ""))
+        ran = self.done("view", "a.bt", "--slice", 9, "--text")
+        said = "octofix: nothing is known at this height\n"
+        self.assertEqual((ran.output, ran.said), (b"\n\n\n", said))
 
     def test_above(self):
         """The lowest of what is occupied is violet, the highest yellow, and free space pale."""
@@ -278,6 +281,17 @@ class Info(InFolder):
         lines = self.done("info", "a.bt").output.decode().splitlines()
         self.assertEqual(lines[0].split(), ["resolution", "0.5"])
         self.assertIn("known to             2.5 1 1", lines)
+
+    def test_numbers_are_whole(self):
+        """A tenth of a litre each, far away."""
+        with Map(0.1) as world:
+            world.edit_box((-3276.75, 0, 0), (-3276.05, 0.05, 0.05), 1, 9)
+            world.save("a.bt")
+        self.assertEqual(json.loads(self.done("info", "a.bt", "--json").output)["occupied_volume"],
+                         0.008)  # fmt: skip
+        save_map("b.bt", 100, {(12345, 0, 0): 9})
+        lines = self.done("info", "b.bt").output.decode().splitlines()
+        self.assertIn("known from           1234500 0 0", lines)
 
     def test_nothing(self):
         save_map("a.bt", 0.5, {})

@@ -6,6 +6,7 @@ import importlib
 import io
 import os
 import re
+import signal
 import sys
 
 from .errors import CLOSED_PIPE, INTERRUPTED, MISSING_LIBRARY, UNUSABLE, Unusable
@@ -57,6 +58,24 @@ def parser():
     return top
 
 
+def run():
+    """Runs the command, and ends the process with its status; after Ctrl-C by that signal, since
+    by this alone a shell sees that its loop is to end, too."""
+    status = main()
+    if status == INTERRUPTED:
+        _end_by_ctrl_c()
+    sys.exit(status)
+
+
+def _end_by_ctrl_c():
+    """Ends the process as Ctrl-C does, where it came first."""
+    if INTERRUPTS.first == signal.SIGINT:
+        with contextlib.suppress(OSError):
+            sys.stdout.flush()
+        signal.signal(signal.SIGINT, signal.SIG_DFL)
+        os.kill(os.getpid(), signal.SIGINT)
+
+
 def main(words=None):
     """Runs a subcommand, and answers its exit status."""
     with INTERRUPTS.heard():
@@ -65,6 +84,7 @@ def main(words=None):
         except Abandoned:
             say("ended at once: nothing is written")
             # (what is abandoned still runs in its thread)
+            _end_by_ctrl_c()
             os._exit(INTERRUPTED)
         except KeyboardInterrupt as why:
             say(f"stopped by {INTERRUPTS.name()}{why}")

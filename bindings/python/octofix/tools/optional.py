@@ -15,17 +15,34 @@ PACKAGES = {
 
 
 def wanted(module):
-    """The module, or None where it isn't there."""
-    try:
-        return importlib.import_module(module)
-    except ImportError:
+    """The module, or None where it isn't there, or can't be loaded."""
+    return _loaded(module)[0]
+
+
+def lack(module):
+    """What is needed for the module, or None where it is there."""
+    found, why = _loaded(module)
+    if found is not None:
         return None
+    name = module.split(".")[0]
+    if isinstance(why, ModuleNotFoundError) and (why.name or "").split(".")[0] == name:
+        return f"the Python library {name} ({PACKAGES[module]})"
+    return f"the Python library {name}, which can't be loaded: {' '.join(str(why).split())}"
 
 
 def needed(module, purpose):
-    """The module; a sentence that names the package where it isn't there."""
-    found = wanted(module)
-    if found is None:
-        name, package = module.split(".")[0], PACKAGES[module]
-        raise MissingLibrary(f"{purpose} needs the Python library {name} ({package})")
-    return found
+    """The module; a sentence that says what is needed where it isn't there."""
+    lacking = lack(module)
+    if lacking:
+        raise MissingLibrary(f"{purpose} needs {lacking}")
+    return wanted(module)
+
+
+def _loaded(module):
+    """The module, and why there is none, as where it was built for another numpy."""
+    try:
+        return importlib.import_module(module), None
+    except MemoryError:
+        raise
+    except Exception as why:
+        return None, why

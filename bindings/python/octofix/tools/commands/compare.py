@@ -19,7 +19,7 @@ from ..leaves import FREE, NAMES, OCCUPIED, overlay
 from ..lengths import NANO, metres
 from ..maps import read_leaves
 from ..morton import decode
-from ..optional import wanted
+from ..optional import lack, wanted
 
 HELP = "classes of two maps side by side"
 # Of which distances are looked for, which takes memory for each.
@@ -61,8 +61,8 @@ def facts(first, second):
     found["iou"] = {NAMES[it]: _overlap(table, it) for it in (OCCUPIED, FREE)}
     if max(it.count(OCCUPIED) for it in (first, second)) > MOST_VOXELS:
         found["distances"] = f"they are told of {MOST_VOXELS} occupied voxels or fewer (--box)"
-    elif wanted("scipy.spatial") is None:
-        found["distances"] = "they need the Python library scipy (in Debian python3-scipy)"
+    elif lack("scipy.spatial"):
+        found["distances"] = f"they need {lack('scipy.spatial')}"
     else:
         pairs = {"first_to_second": (first, second), "second_to_first": (second, first)}
         found["distances"] = {name: _distances(*pair) for name, pair in pairs.items()}

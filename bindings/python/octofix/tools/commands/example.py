@@ -61,6 +61,8 @@ def arguments(parser):
 
 
 def run(options):
+    if not options.folder:
+        raise Unusable("the name of the folder is empty (is a variable of the shell unset?)")
     folder = Path(options.folder)
     clouds = folder / "clouds"
     # (a run that had no room for the files leaves the folders)

@@ -38,13 +38,13 @@ def facts(name):
         extents = {it: world.extent(it) for it in ("known", "occupied")}
         resolution, odds = world.resolution, world.odds._asdict()
     voxels = {one: leaves.count(one) for one in (OCCUPIED, FREE)}
-    volume = (leaves.resolution / NANO) ** 3
     found = {"resolution": resolution}
     found |= {"occupied_voxels": voxels[OCCUPIED], "free_voxels": voxels[FREE]}
     found |= {"leaves": len(leaves), "nodes": counts.nodes, "groups": counts.groups}
     for kind, extent in extents.items():
         found[f"{kind}_from"], found[f"{kind}_to"] = _corners(extent)
-    found |= {"occupied_volume": voxels[OCCUPIED] * volume, "free_volume": voxels[FREE] * volume}
+    volumes = {one: count * leaves.resolution**3 / NANO**3 for one, count in voxels.items()}
+    found |= {"occupied_volume": volumes[OCCUPIED], "free_volume": volumes[FREE]}
     return found | {"memory_bytes": memory, "log_odds": odds}
 
 
@@ -58,7 +58,7 @@ def _text(value):
     if value is None:
         return "none"
     if isinstance(value, list):
-        return " ".join(f"{it:g}" for it in value)
+        return " ".join(f"{it:.9g}" for it in value)
     if isinstance(value, dict):
         return ", ".join(f"{name} {number}" for name, number in value.items())
     return f"{value:.9g}" if isinstance(value, float) else str(value)

@@ -41,9 +41,9 @@ PAGES = (".html", ".htm")
 
 
 def elevation(word):
-    if not 5 <= float(word) <= 85:
+    if not 5 <= finite(word) <= 85:
         raise argparse.ArgumentTypeError(f"{word} isn't from 5 to 85 degrees")
-    return float(word)
+    return finite(word)
 
 
 def arguments(parser):
@@ -53,11 +53,11 @@ def arguments(parser):
     how.add_argument("--oblique", action="store_true", help="from a corner")
     how.add_argument("--slice", type=finite, metavar="Z", help="the voxels at this height")
     parser.add_argument(
-        "--around", type=finite, default=235.0, metavar="DEG",
+        "--around", type=finite, metavar="DEG",
         help="where --oblique looks from: degrees from x towards y (235)",
     )  # fmt: skip
     parser.add_argument(
-        "--above", type=elevation, default=35.0, metavar="DEG", help="and above the ground (35)"
+        "--above", type=elevation, metavar="DEG", help="and above the ground (35)"
     )
     parser.add_argument("--width", type=whole(16, 8192), default=800, metavar="N", help="in pixels")
     parser.add_argument("--text", action="store_true", help="a slice as text on the output")
@@ -70,6 +70,8 @@ def run(options):
         raise Unusable("--text shows a slice (--slice Z)")
     if not (options.text or options.open or options.output):
         raise Unusable("nothing is to be written (-o FILE, --text or --open)")
+    if not options.oblique and (options.around, options.above) != (None, None):
+        raise Unusable("--around and --above say where --oblique looks from")
     if options.open or options.output and options.output.lower().endswith(PAGES):
         _page(options)
         return DONE
@@ -140,6 +142,8 @@ def _slice(leaves, options):
     height = (options.slice, options.slice)
     box = box_for(leaves.box(), leaves.resolution, area, height, "--box, --slice")
     plane = planes.band(leaves, *box)[::-1]
+    if not plane.any():
+        say("nothing is known at this height")
     if options.text:
         print("\n".join(" ".join(row).rstrip() for row in SIGNS[plane]))
     if options.output:
@@ -183,5 +187,6 @@ def _voxels(leaves):
 
 def _oblique(leaves, options):
     keys, _ = _voxels(leaves)
-    camera = oblique.Camera(options.around, options.above)
+    asked = {"around": options.around, "above": options.above}
+    camera = oblique.Camera(**{name: it for name, it in asked.items() if it is not None})
     write_picture(options.output, oblique.picture(keys, camera, options.width))
