@@ -331,15 +331,15 @@ uint32_t octofix_scan_in_map(octofix_map *map, const octofix_point *origin,
                              const octofix_scan_options *options, octofix_counted *counted,
                              octofix_details *details);
 
-/* From now on scans change only voxels of the box from the voxel of low to that of high, in place
- * of the box that stood. Nothing else looks at it. Refused: CLOSED, OUTSIDE, BAD_BOX. */
+/* Sets the update box: from now on scans change only voxels of the box from the voxel of low to
+ * that of high. Nothing else looks at it. Refused: CLOSED, OUTSIDE, BAD_BOX. */
 uint32_t octofix_limit(octofix_map *map, const octofix_point *low, const octofix_point *high,
                        octofix_details *details);
 
-/* Lifts the limit, where one stands. Refused: CLOSED. */
+/* Takes the update box away, where one stands. Refused: CLOSED. */
 uint32_t octofix_no_limit(octofix_map *map);
 
-/* The box of the limit, where the code is 0. Refused: CLOSED, NONE. */
+/* The update box, where the code is 0. Refused: CLOSED, NONE. */
 uint32_t octofix_window(const octofix_map *map, octofix_box *window);
 
 /* Makes all blocks right again after lazy edits, so that the map isn't stale. Costs a walk.
@@ -351,7 +351,7 @@ uint32_t octofix_refresh(octofix_map *map);
 uint32_t octofix_prune(octofix_map *map);
 
 /* Makes each voxel unknown, ends staleness, takes the mark away, and gives memory back. Resolution,
- * log-odds, limits and the box of the limit stay. Refused: CLOSED. */
+ * log-odds, limits and update box stay. Refused: CLOSED. */
 uint32_t octofix_clear(octofix_map *map);
 
 /* Makes each occupied voxel max and each free one min, ends staleness, and prunes. Costs a walk.
@@ -491,8 +491,8 @@ uint32_t octofix_changes(const octofix_map *map, octofix_change *changed, size_t
                          size_t *count);
 
 /* -- files, as bytes. A .bt file has the classes of the voxels, as the OctoMap library reads and
- * writes it. A snapshot has their values, the log-odds and the box of the limit. Neither has
- * limits, mark or staleness. Both are written in one way: equal maps have equal bytes. */
+ * writes it. A snapshot has their values, the log-odds and the update box. Neither has limits,
+ * mark or staleness. Both are written in one way: equal maps have equal bytes. */
 
 /* The .bt file of the map. Costs a walk. *length is written on DONE and SMALL_BUFFER.
  * Refused: CLOSED, SMALL_BUFFER, MEMORY. */
@@ -509,8 +509,8 @@ uint32_t octofix_load(octofix_map *map, const uint8_t *bytes, size_t length,
  * Refused: CLOSED, SMALL_BUFFER, MEMORY. */
 uint32_t octofix_snapshot(const octofix_map *map, uint8_t *bytes, size_t room, size_t *length);
 
-/* Makes the map that of a snapshot: its values, its log-odds and its box of the limit (a snapshot
- * of version 1 has values alone). Ends staleness, takes the mark away, and prunes. Refused, with
+/* Makes the map that of a snapshot: its values, its log-odds and its update box (a snapshot of
+ * version 1 has values alone). Ends staleness, takes the mark away, and prunes. Refused, with
  * the map as it was: CLOSED, TRUNCATED, TRAILING_BYTES, BAD_MAGIC or BAD_SNAPSHOT (the first fault,
  * by docs/FORMATS.md), OTHER_RESOLUTION, FULL, MEMORY. */
 uint32_t octofix_restore(octofix_map *map, const uint8_t *bytes, size_t length,

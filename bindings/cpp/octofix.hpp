@@ -444,8 +444,8 @@ class map {
                                          : from_bt(file, log_odds, most);
     }
 
-    /// A map of its own with these values, log-odds, limits and box of the limit. It isn't stale,
-    /// and has no mark.
+    /// A map of its own with these values, log-odds, limits and update box. It isn't stale, and
+    /// has no mark.
     [[nodiscard]] map clone() const {
         const octofix::settings now = settings();
         map other;
@@ -521,13 +521,13 @@ class map {
         return scanned(&octofix_scan_in_map, origin, points, how);
     }
 
-    /// From now on scans change only voxels of this box.
+    /// Sets the update box: from now on scans change only voxels of it.
     void limit(const point &low, const point &high) {
         details named{};
         detail::check(octofix_limit(&handle_, &low, &high, &named), named);
     }
     void no_limit() { detail::check(octofix_no_limit(&handle_)); }
-    /// The box of the limit.
+    /// The update box.
     [[nodiscard]] std::optional<box> window() const { return found(&octofix_window); }
 
     void refresh() { detail::check(octofix_refresh(&handle_)); }

@@ -217,7 +217,7 @@ class Map:
 
     @property
     def window(self) -> Box | None:
-        """The box of `limit`, or None."""
+        """The update box, which `limit` sets, or None."""
         return self._box("window")
 
     # -- edits

@@ -124,8 +124,8 @@ file_number [] = None
 file_number (word ∷ []) = count_of 0 (2 ^ 32) word
 file_number (word ∷ other ∷ words) = None
 
--- the most bytes of a file that the words after the command choose: none, or `--max-bytes` and a
--- number
+-- the most bytes of a file that the words after a task's name choose: none, or `--max-bytes` and
+-- a number
 abbrev pub file_bytes : List Word → Option ℕ
 file_bytes [] = Some (2 ^ 26)
 file_bytes (name ∷ words) =
@@ -217,29 +217,29 @@ gen_by load = Gen load.seed load.scans load.points
 abbrev pub drill_by : Workload → Task
 drill_by load = Drill load.seed load.scans load.points
 
--- the task of a command and the words after it
+-- the task of a name and the words after it
 abbrev pub task_by : Word → List Word → Option Task
-task_by command words =
-    if bytes_eq command (codes "session") then option_map Session (options_asked words)
-    else if bytes_eq command (codes "build") then option_map Build (options_asked words)
-    else if bytes_eq command (codes "convert")
+task_by name words =
+    if bytes_eq name (codes "session") then option_map Session (options_asked words)
+    else if bytes_eq name (codes "build") then option_map Build (options_asked words)
+    else if bytes_eq name (codes "convert")
     then option_map (OverFile Convert) (file_bytes words)
-    else if bytes_eq command (codes "inspect")
+    else if bytes_eq name (codes "inspect")
     then option_map (OverFile Inspect) (file_bytes words)
-    else if bytes_eq command (codes "frontier")
+    else if bytes_eq name (codes "frontier")
     then option_map (task_in Frontier) (stretch_of words)
-    else if bytes_eq command (codes "project") then option_map (task_in Project) (stretch_of words)
-    else if bytes_eq command (codes "vrml") then option_map (OverFile Vrml) (file_bytes words)
-    else if bytes_eq command (codes "merge") then option_map OverStore (merge_asked words)
-    else if bytes_eq command (codes "table") then option_map OverStore (table_asked words)
-    else if bytes_eq command (codes "gen") then option_map gen_by (workload_of words)
-    else if bytes_eq command (codes "drill") then option_map drill_by (workload_of words)
+    else if bytes_eq name (codes "project") then option_map (task_in Project) (stretch_of words)
+    else if bytes_eq name (codes "vrml") then option_map (OverFile Vrml) (file_bytes words)
+    else if bytes_eq name (codes "merge") then option_map OverStore (merge_asked words)
+    else if bytes_eq name (codes "table") then option_map OverStore (table_asked words)
+    else if bytes_eq name (codes "gen") then option_map gen_by (workload_of words)
+    else if bytes_eq name (codes "drill") then option_map drill_by (workload_of words)
     else None
 
--- the task that the words ask for; words with another command have none
+-- the task that the words ask for; words with another name have none
 unfoldable pub task_of : List Word → Option Task
 task_of [] = None
-task_of (command ∷ words) = task_by command words
+task_of (name ∷ words) = task_by name words
 
 -- the numbers of a task are in their ranges: at most 2^32 bytes of a file, and at most 1,000 scans
 -- of at most 100,000 points each

@@ -418,51 +418,51 @@ fn read_file_task(task: FileTask, words: &[String]) -> Option<Task>
     Some(Task::OverFile { task, max_bytes })
 }
 
-/// Reads the words after a command.
-fn read_task(command: &[u8], words: &[String]) -> Option<Task>
-    ensures exact { option_map meant_task result ≡ task_by command.now (bytes_of words.now) }
+/// Reads the words after the name of a task.
+fn read_task(name: &[u8], words: &[String]) -> Option<Task>
+    ensures exact { option_map meant_task result ≡ task_by name.now (bytes_of words.now) }
     ensures few { IfSome result (λ task. IsInRange (meant_task task)) }
 {
-    if command == b"session".as_slice() {
+    if name == b"session".as_slice() {
         Some(Task::Session(read_setup(words)?))
-    } else if command == b"build".as_slice() {
+    } else if name == b"build".as_slice() {
         Some(Task::Build(read_setup(words)?))
-    } else if command == b"convert".as_slice() {
+    } else if name == b"convert".as_slice() {
         read_file_task(FileTask::Convert, words)
-    } else if command == b"inspect".as_slice() {
+    } else if name == b"inspect".as_slice() {
         read_file_task(FileTask::Inspect, words)
-    } else if command == b"frontier".as_slice() {
+    } else if name == b"frontier".as_slice() {
         let Stretch { lo, hi, max_bytes } = read_stretch(words)?;
         let task = FileTask::Frontier { lo, hi };
         Some(Task::OverFile { task, max_bytes })
-    } else if command == b"project".as_slice() {
+    } else if name == b"project".as_slice() {
         let Stretch { lo, hi, max_bytes } = read_stretch(words)?;
         let task = FileTask::Project { lo, hi };
         Some(Task::OverFile { task, max_bytes })
-    } else if command == b"vrml".as_slice() {
+    } else if name == b"vrml".as_slice() {
         read_file_task(FileTask::Vrml, words)
-    } else if command == b"merge".as_slice() {
+    } else if name == b"merge".as_slice() {
         Some(Task::OverStore(read_merge(words)?))
-    } else if command == b"table".as_slice() {
+    } else if name == b"table".as_slice() {
         Some(Task::OverStore(read_table(words)?))
-    } else if command == b"gen".as_slice() {
+    } else if name == b"gen".as_slice() {
         Some(gen_task(read_workload(words)?))
-    } else if command == b"drill".as_slice() {
+    } else if name == b"drill".as_slice() {
         Some(drill_task(read_workload(words)?))
     } else {
         None
     }
 }
 
-/// Reads the words of the command line, which don't have the program's own name: a command, and the
-/// words that it may have.
+/// Reads the words of the command line, which don't have the program's own name: the name of a
+/// task, and the words that it may have.
 #[tactic(auto, unfolding(crate::specs::Task::task_of))]
 pub fn read_words(words: &[String]) -> Result<Task, Usage>
     ensures exact { option_map meant_task (result_ok result) ≡ task_of (bytes_of words.now) }
     ensures few { IfOk result (λ task. IsInRange (meant_task task)) }
 {
-    let [command, rest @ ..] = words else {
+    let [name, rest @ ..] = words else {
         return Err(Usage);
     };
-    read_task(command.as_bytes(), rest).ok_or(Usage)
+    read_task(name.as_bytes(), rest).ok_or(Usage)
 }

@@ -86,15 +86,7 @@ impl OccMap {
             → ⊥) }
         ensures map { IsMap self.now }
     {
-        let Some(low) = self.tree.res().key_of(lo) else {
-            return Err(MapFault::Outside { point: 1 });
-        };
-        let Some(high) = self.tree.res().key_of(hi) else {
-            return Err(MapFault::Outside { point: 2 });
-        };
-        let Some(window) = Window::new(low, high) else {
-            return Err(MapFault::BadBox);
-        };
+        let window = self.window_between(lo, hi)?;
         Ok(leaves_of_in(self.alloc, &self.tree, &window, sought)?)
     }
 
