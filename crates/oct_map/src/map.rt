@@ -24,7 +24,7 @@ ghost use Rattle.oct_map.specs.declared.fault.MapFault.{MapFault};
 ghost use Rattle.oct_map.specs.Asked.{IsToAsk};
 ghost use Rattle.oct_map.specs.Answers.{room_answer, edit_answer, edit_need, box_answer, box_fault};
 ghost use Rattle.oct_map.specs.Answers.{most_noted, limit_answer, scan_answer, get_answer};
-ghost use Rattle.oct_map.specs.Answers.{window_answer, IsAnswerOrMemory};
+ghost use Rattle.oct_map.specs.Answers.{IsAnswerOrMemory};
 ghost use Rattle.oct_map.specs.Outcome.{corner_events, corner_need, corner_box, corner_volume};
 ghost use Rattle.oct_map.specs.Outcome.{hit_event, miss_event};
 ghost use Rattle.oct_map.specs.Notes.{LacksNotes, NotesFew};
@@ -221,9 +221,15 @@ impl OccMap {
         ensures setup { ground_of self.new ≡ ground_of self.old }
         ensures map { IsMap self.new }
     {
-        let window = self.window_between(lo, hi)?;
-        let low = window.lo();
-        let high = window.hi();
+        let Some(low) = self.tree.res().key_of(lo) else {
+            return Err(MapFault::Outside { point: 1 });
+        };
+        let Some(high) = self.tree.res().key_of(hi) else {
+            return Err(MapFault::Outside { point: 2 });
+        };
+        let Some(window) = Window::new(low, high) else {
+            return Err(MapFault::BadBox);
+        };
         let count = window.volume();
         if self.is_too_wide(count) {
             return Err(MapFault::WideWhileTracked { count });
@@ -233,23 +239,6 @@ impl OccMap {
         self.mark.note_box(&self.tree, low, high);
         touch_box(&mut self.tree, low, high, event);
         Ok(())
-    }
-
-    /// The box whose corners are the voxels that hold the two points, both included, or why there
-    /// is none: a corner outside the map, and then where on some axis the first corner lies beyond
-    /// the second.
-    pub fn window_between(&self, lo: Point, hi: Point) -> Result<Window, MapFault>
-        ensures exact { result ≡ window_answer (key_at self.now.tree.res lo)
-            (key_at self.now.tree.res hi) }
-        ensures map { IsMap self.now }
-    {
-        let Some(low) = self.tree.res().key_of(lo) else {
-            return Err(MapFault::Outside { point: 1 });
-        };
-        let Some(high) = self.tree.res().key_of(hi) else {
-            return Err(MapFault::Outside { point: 2 });
-        };
-        Window::new(low, high).ok_or(MapFault::BadBox)
     }
 
     /// Restricts the scans that come to the box whose corners are the voxels that hold the two
@@ -266,7 +255,16 @@ impl OccMap {
         ensures refused { OnErr result (self.new ≡ self.old) }
         ensures map { IsMap self.new }
     {
-        self.window = Some(self.window_between(lo, hi)?);
+        let Some(low) = self.tree.res().key_of(lo) else {
+            return Err(MapFault::Outside { point: 1 });
+        };
+        let Some(high) = self.tree.res().key_of(hi) else {
+            return Err(MapFault::Outside { point: 2 });
+        };
+        let Some(window) = Window::new(low, high) else {
+            return Err(MapFault::BadBox);
+        };
+        self.window = Some(window);
         Ok(())
     }
 

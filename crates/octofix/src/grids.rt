@@ -12,8 +12,8 @@ use crate::handle::Octofix;
 use crate::refusal::{DONE, Refusal, SMALL_BUFFER};
 use crate::types::{Details, PointNm};
 use oct_export::{column_count, fill_cells};
-use oct_key::Key;
-use oct_map::OccMap;
+use oct_key::{Key, Window};
+use oct_map::{MapFault, OccMap};
 use oct_tree::OccTree;
 
 /// The most columns of a grid.
@@ -75,11 +75,17 @@ fn grid(
     ensures count { count.new ≡ count_left count.old (cells_between low.now high.now map.now) }
     ensures details { details.new ≡ answer_details (cells_between low.now high.now map.now) }
 {
-    let window = match map.window_between(low.point(), high.point()) {
-        Ok(window) => window,
-        Err(fault) => return Refusal::Map(fault).tell(details),
+    let tree = map.tree();
+    let Some(first) = tree.res().key_of(low.point()) else {
+        return Refusal::Map(MapFault::Outside { point: 1 }).tell(details);
     };
-    cells_in(map.tree(), window.lo(), window.hi(), cells, count, details)
+    let Some(last) = tree.res().key_of(high.point()) else {
+        return Refusal::Map(MapFault::Outside { point: 2 }).tell(details);
+    };
+    if Window::new(first, last).is_none() {
+        return Refusal::Map(MapFault::BadBox).tell(details);
+    }
+    cells_in(tree, first, last, cells, count, details)
 }
 
 /// What the columns of voxels between two points show, one cell each: 100 where some voxel is

@@ -86,7 +86,15 @@ impl OccMap {
             → ⊥) }
         ensures map { IsMap self.now }
     {
-        let window = self.window_between(lo, hi)?;
+        let Some(low) = self.tree.res().key_of(lo) else {
+            return Err(MapFault::Outside { point: 1 });
+        };
+        let Some(high) = self.tree.res().key_of(hi) else {
+            return Err(MapFault::Outside { point: 2 });
+        };
+        let Some(window) = Window::new(low, high) else {
+            return Err(MapFault::BadBox);
+        };
         Ok(leaves_of_in(self.alloc, &self.tree, &window, sought)?)
     }
 
