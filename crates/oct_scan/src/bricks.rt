@@ -126,7 +126,7 @@ fn merge_update(alloc: Global, bricks: Vec<Brick>) -> Result<UpdateBricks, Memor
         ((code : ℕ) → Contains hits code → Contains scanned code) →
         IsSettled scanned hits (listed set)) }
     ensures made { IfOk result IsMadeOfBricks }
-    ensures some { OnErr result (0 < length bricks.items) }
+    ensures memory { OnErr result (0 < length bricks.items) }
 {
     if bricks.is_empty() {
         return Ok(UpdateBricks {

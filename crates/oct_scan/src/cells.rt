@@ -41,7 +41,7 @@ pub fn gather(
         HoldAllGathered res window.now origin (bare beams.now) bricks.items) }
     ensures bricks { IfOk result (λ bricks. All IsBrick bricks.items) }
     ensures few { IfOk result (λ bricks. (n : ℕ) × AreFew n bricks.items) }
-    ensures some { OnErr result (0 < length beams.now) }
+    ensures memory { OnErr result (0 < length beams.now) }
 {
     let mut bricks = BrickPile::new(alloc);
     let count = beams.len() as u64;
@@ -72,7 +72,7 @@ fn add_by_keys(
     ensures gathered { OnOk result (HoldAllGathered res window.now origin (bare beams.now)
         bricks.new) }
     ensures bricks { OnOk result (All IsBrick bricks.new) }
-    ensures some { OnErr result (0 < length beams.now) }
+    ensures memory { OnErr result (0 < length beams.now) }
 {
     for &key in keys {
         add_beam(
@@ -102,7 +102,7 @@ fn add_beams(
     ensures gathered { OnOk result (HoldAllGathered res window.now origin (bare beams.now)
         bricks.new) }
     ensures bricks { OnOk result (All IsBrick bricks.new) }
-    ensures some { OnErr result (0 < length beams.now) }
+    ensures memory { OnErr result (0 < length beams.now) }
 {
     for beam in beams {
         add_beam(bricks, res, origin, start, *beam, window)?;
@@ -343,7 +343,7 @@ fn push_code(bricks: &mut BrickPile, brick: Brick, code: u64) -> Result<Brick, M
         Contains (hit_codes bricks.new) c ↔ Contains (hit_codes bricks.old) c) }
     ensures current { IfOk result IsCurrent }
     ensures bricks { OnOk result (All IsBrick bricks.new) }
-    ensures other { OnErr result (code / 64 ≢ brick.code) }
+    ensures memory { OnErr result (code / 64 ≢ brick.code) }
 {
     if code >> 6 == brick.code {
         return Ok(brick.with_scanned(code));
@@ -361,7 +361,7 @@ fn push_some(bricks: &mut BrickPile, brick: Brick) -> Result<(), Memory>
     ensures hits { OnOk result ((c : ℕ) →
         Contains (hit_codes bricks.new) c ↔ Contains (hit_codes bricks.old) c) }
     ensures bricks { OnOk result (All IsBrick bricks.new) }
-    ensures some { OnErr result (brick.scanned ≢ 0) }
+    ensures memory { OnErr result (brick.scanned ≢ 0) }
 {
     if brick.scanned != 0 {
         bricks.push(brick)?;
@@ -380,7 +380,7 @@ fn push_end(bricks: &mut BrickPile, end: u64, is_mute: bool) -> Result<(), Memor
         (Contains (hit_codes bricks.old) c
         ⊎ Contains (if is_mute then [] else end ∷ []) c)) }
     ensures bricks { OnOk result (All IsBrick bricks.new) }
-    ensures loud { OnErr result (is_mute ≡ false) }
+    ensures memory { OnErr result (is_mute ≡ false) }
 {
     if !is_mute {
         bricks.push(Brick::around(end).with_hit(end))?;

@@ -21,7 +21,7 @@ pub fn sorted_keys(alloc: Global, beams: &[PlacedBeam]) -> Result<Vec<u64>, Memo
     ensures keys { IfOk result (λ keys. AreKeys beams.now keys.items) }
     ensures coded { IfOk result (λ keys. All (IsCoded beams.now) keys.items) }
     ensures order { IfOk result (λ keys. IsNonDecreasing keys.items) }
-    ensures some { OnErr result (0 < length beams.now) }
+    ensures memory { OnErr result (0 < length beams.now) }
 {
     let mut keys = Vec::new(alloc);
     for (place, beam) in beams.iter().enumerate() {

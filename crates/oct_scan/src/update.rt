@@ -94,7 +94,7 @@ pub fn update_set(
 fn list_voxels(alloc: Global, update: &UpdateBricks) -> Result<UpdateSet, Memory>
     requires { All IsBrick update.now.bricks }
     ensures same { IfOk result (λ set. set ≡ listed update.now) }
-    ensures some { OnErr result (0 < length update.now.bricks) }
+    ensures memory { OnErr result (0 < length update.now.bricks) }
 {
     let mut hits = KeyList::new(alloc);
     let mut frees = KeyList::new(alloc);
