@@ -37,6 +37,7 @@ CLOUDS = [
     ("bad:2:4: the line has 2 numbers, and 3 are needed", "1 2 3\n4 5\n"),
     ("bad:2:5: 'six' is no number", "1 2 3\n4 5 six\n"),
     ("bad:3:4: '' is no number", "# a\n1,2,3\n4, ,6\n"),
+    ("bad:2:1: '4\\xa05\\xa06' is no number", "1 2 3\n4\N{NO-BREAK SPACE}5\N{NO-BREAK SPACE}6\n"),
     (
         "bad:1: which of 3 columns are x, y and z isn't clear (as --columns 1,2,3): 'a b c'",
         "a b c\n1 2 3\n",
@@ -273,6 +274,9 @@ class Words(InFolder):
     def test_files_apart(self):
         ran = self.done("map", "a.xyz", "--res", 1, "b.xyz", "-o", "c.bt", status=2)
         said = "unrecognized arguments: b.xyz (files stand one after another)\n"
+        self.assertTrue(ran.said.endswith(said), ran.said)
+        ran = self.done("info", "a.bt", "b.bt", status=2)
+        said = "unrecognized arguments: b.bt (it takes no more files)\n"
         self.assertTrue(ran.said.endswith(said), ran.said)
 
     def test_words_that_are_no_numbers(self):

@@ -226,6 +226,13 @@ class Kinds(Inputs):
         self.write("a.xyz", "x y z\r\n1 2 3\r\n")
         self.assertIn("\np 1 2 3\n", self.script("a.xyz"))
 
+    def test_empty_lines_before(self):
+        """However many there are, of numbers and of a scan log."""
+        for front in ("\n" * 9_999, "# a \r\n\n" * 5_000, " \n" * 9_999):
+            for content in ("1 2 3\n", "NODE 0 0 0 0 0 0\n1 2 3\n"):
+                self.write("a.xyz", front + content)
+                self.assertIn("\np 1 2 3\n", self.script("a.xyz"))
+
     def test_other_bytes(self):
         said = ": it is no text, and its first bytes are of no kind that is read"
         self.is_refused(said, b"1 2 3\n\x01\x02")

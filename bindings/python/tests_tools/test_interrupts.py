@@ -150,7 +150,8 @@ class Start(Processes):
         with mock.patch.dict(os.environ, OCTOFIX_LIBRARY="/nowhere.so"):
             run = self.map("a.xyz")
         _, said = run.communicate(timeout=30)
-        self.assertRegex(said, rb"^octofix: the library [^\n]* can't be loaded[^\n]*/nowhere.so.*\n$")
+        wanted = rb"^octofix: the library [^\n]* can't be loaded[^\n]*/nowhere.so.*\n$"
+        self.assertRegex(said, wanted)
         self.assertEqual((run.returncode, content_of("a.bt")), (4, b"2 0 0\n"))
 
     def test_without_numpy(self):

@@ -138,6 +138,9 @@ class Forms(InFolder):
             self.assertEqual(self.scan(f"{heading}{row}{zeros}\n"), self.TURNED)
         self.assertEqual(self.scan(f"#timestamp [ns], {places}, {names}\n{row}\n"), self.TURNED)
         self.assertEqual(self.scan(f"{row}\n", "--pose-format", "euroc"), self.TURNED)
+        brackets = "(" * 50_000
+        self.assertEqual(self.scan(f"# {brackets}\n0 1 2 3 {self.HALF} 0 0 {self.HALF}\n",
+                                   "--pose-format", "euroc"), self.TURNED)  # fmt: skip
 
     def test_twelve_columns_with_names(self):
         """As many as a matrix of KITTI has."""

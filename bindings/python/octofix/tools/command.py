@@ -163,12 +163,18 @@ def _parsed(top, words):
     try:
         options, rest = top.parse_known_args(words)
         if rest:
-            hint = "" if rest[0].startswith("-") else " (files stand one after another)"
+            hint = "" if rest[0].startswith("-") else f" ({_files_of(options)})"
             top.error(f"unrecognized arguments: {' '.join(rest)}{hint}")
         return options
     except SystemExit:
         sys.stdout.flush()
         raise
+
+
+def _files_of(options):
+    """How a subcommand takes files."""
+    is_for_many = any(value and isinstance(value, list) for value in vars(options).values())
+    return "files stand one after another" if is_for_many else "it takes no more files"
 
 
 def _give_output_up():

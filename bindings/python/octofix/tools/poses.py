@@ -199,7 +199,7 @@ def _unclear(row):
 
 def _names_of(heading):
     """The names in a line that may name columns, without units."""
-    plain = re.sub(r"[\[(][^\])]*[\])]", " ", heading).lower().lstrip("# ")
+    plain = re.sub(r"[\[(][^\[\]()]*[\])]", " ", heading).lower().lstrip("# ")
     return [it for it in re.split(r"[,\s]+", plain) if it]
 
 

@@ -29,7 +29,8 @@ SIGNS = [
     (rb"\x93NUMPY", "npy"),
     (LAS, "las"),
     (ROS_BAG, "bag"),
-    (rb"(\s*(#[^\n]*)?\n)*NODE\s", "log"),
+    # (each blank and each comment can be taken in one way alone, else this takes for ever)
+    (rb"\s*(#[^\n]*\n\s*)*(?<![^\S\n])NODE\s", "log"),
 ]
 ENDINGS = [
     (r"\.pcd\.bin(\.gz)?$", "nuscenes"),

@@ -42,7 +42,8 @@ def table_of(body, columns, first_line, delimiter=None, width=None):
 def words_of(row, delimiter):
     """The words of a line with the columns that they begin in, from 1."""
     if delimiter is None:
-        return [(it[0], it.start() + 1) for it in re.finditer(r"\S+", row)]
+        # (a space that doesn't break parts no words)
+        return [(it[0], it.start() + 1) for it in re.finditer(r"\S+", row, re.ASCII)]
     found, start = [], 0
     for part in row.split(delimiter):
         blanks = len(part) - len(part.lstrip())
