@@ -49,6 +49,14 @@ class Compare(InFolder):
         box = ["--box", 0, 0, 0, 1, 1, 1]
         self.assertNotIn(said.encode(), self.done("compare", "a.bt", "a.bt", *box).output)
 
+    def test_the_whole_map(self):
+        """Its 2^48 voxels, in columns of their own."""
+        with Map(0.5) as world:
+            world.edit_box((-16384, -16384, -16384), (16383.9, 16383.9, 16383.9), 1, -9)
+            world.save("a.bt")
+        lines = self.done("compare", "a.bt", "a.bt").output.decode().splitlines()
+        self.assertEqual(lines[2].split(), ["free", "0", str(1 << 48), "0"])
+
 
 class Edited(InFolder):
     """crop, shift, coarsen: the file of the same voxels, made one by one."""

@@ -289,9 +289,10 @@ class Info(InFolder):
             world.save("a.bt")
         self.assertEqual(json.loads(self.done("info", "a.bt", "--json").output)["occupied_volume"],
                          0.008)  # fmt: skip
-        save_map("b.bt", 100, {(12345, 0, 0): 9})
-        lines = self.done("info", "b.bt").output.decode().splitlines()
-        self.assertIn("known from           1234500 0 0", lines)
+        for resolution, x in ((100, "1234500"), (0.123456789, "1524.074060205")):
+            save_map("b.bt", resolution, {(12345, 0, 0): 9})
+            lines = self.done("info", "b.bt").output.decode().splitlines()
+            self.assertIn(f"known from           {x} 0 0", lines)
 
     def test_nothing(self):
         save_map("a.bt", 0.5, {})

@@ -98,9 +98,9 @@ def _occupied(leaves):
 
 
 def _text(found):
-    lines = [f"{'first / second':15}" + "".join(f"{it:>14}" for it in NAMES)]
+    lines = [f"{'first / second':15}" + "".join(f"{it:>16}" for it in NAMES)]
     for name, row in found["table"].items():
-        cells = "".join(f"{row.get(it, '-'):>14}" for it in NAMES)
+        cells = "".join(f"{row.get(it, '-'):>16}" for it in NAMES)
         lines.append(f"{name:15}{cells}")
     lines += [f"IoU of {name}: {value}" for name, value in found["iou"].items()]
     distances = found["distances"]

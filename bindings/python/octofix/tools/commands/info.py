@@ -58,7 +58,7 @@ def _text(value):
     if value is None:
         return "none"
     if isinstance(value, list):
-        return " ".join(f"{it:.9g}" for it in value)
+        return " ".join(f"{it:.9f}".rstrip("0").rstrip(".") for it in value)
     if isinstance(value, dict):
         return ", ".join(f"{name} {number}" for name, number in value.items())
     return f"{value:.9g}" if isinstance(value, float) else str(value)
