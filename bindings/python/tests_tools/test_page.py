@@ -212,7 +212,10 @@ class Open(InFolder):
         with mock.patch(f"{VIEW}.webbrowser.open", return_value=False):
             said = "no browser could be started; open a.html in one"
             self.refused(said, "view", "a.bt", "--open", "-o", "a.html")
+            with mock.patch(f"{VIEW}.tempfile.mkdtemp", return_value=os.getcwd()):
+                ran = self.done("view", "a.bt", "--open", status=1)
         read_page("a.html")
+        self.assertNotIn("is shown", ran.said)
 
     def test_refusals(self):
         said = "--oblique, --slice and --text are for pictures; a page shows it all"

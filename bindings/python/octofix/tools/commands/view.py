@@ -101,10 +101,10 @@ def _page(options):
     name = options.output or _write_for_the_browser(content)
     if options.output:
         write(name, content)
-    else:
-        say(f"{name} is shown")
     if options.open and not webbrowser.open(pathlib.Path(name).absolute().as_uri()):
         raise Unusable(f"no browser could be started; open {name} in one")
+    if not options.output:
+        say(f"{name} is shown")
 
 
 def _write_for_the_browser(content):
