@@ -33,16 +33,15 @@ pub(crate) fn common_node(arena: &NodeArena, id: GroupId) -> Option<Node>
     ensures none { IfNone result (IsCollapsible arena.now id.number → ⊥) }
 {
     let group = arena.group(id);
-    let first = group.node(0);
-    if matches!(first, Node::Inner(..)) {
-        return None;
-    }
     for i in 1..8 {
         if !group.are_same(0, i) {
             return None;
         }
     }
-    Some(first)
+    match group.node(0) {
+        Node::Inner(..) => None,
+        first => Some(first),
+    }
 }
 
 /// Whether the group's eight nodes are absent.
