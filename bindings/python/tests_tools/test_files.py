@@ -128,6 +128,27 @@ class Written(Maps):
             resource.setrlimit(resource.RLIMIT_FSIZE, limits)
         self.assertEqual(content_of("a.bt"), b"old")
 
+    def test_no_room_of_every_command(self):
+        """What stood there stands, and nothing else is left."""
+        save_map("m.bt", 0.5, {(0, 0, 0): 9})
+        box = "--box", 0, 0, 0, 1, 1, 1
+        limits = resource.getrlimit(resource.RLIMIT_FSIZE)
+        self.addCleanup(resource.setrlimit, resource.RLIMIT_FSIZE, limits)
+        for name, *words in (
+            ("a.bt", "merge"), ("a.snap", "merge", "--snapshot"), ("a.pgm", "grid"),
+            ("a.png", "view"), ("a.png", "view", "--oblique"), ("a.png", "view", "--slice", 0),
+            ("a.html", "view"), ("a.ply", "points"), ("a.csv", "points"), ("a.bt", "crop", *box),
+            ("a.bt", "shift", "--voxels", 1, 0, 0), ("a.bt", "coarsen", "--depth", 3),
+        ):  # fmt: skip
+            option = [] if words[-1] == "--snapshot" else ["-o"]
+            put_file(name)
+            before = set(os.listdir())
+            resource.setrlimit(resource.RLIMIT_FSIZE, (5, limits[1]))
+            said = f"{name}: File too large"
+            self.refused(said, words[0], "m.bt", *words[1:], *option, name)
+            resource.setrlimit(resource.RLIMIT_FSIZE, limits)
+            self.assertEqual((content_of(name), set(os.listdir())), (b"old", before))
+
     def test_all_or_none(self):
         """The second file can't be put in its place: the first one is as it was."""
         replace = os.replace
