@@ -34,11 +34,7 @@ if importlib.util.find_spec("numpy") is None:
         os.execv(SYSTEM, [SYSTEM, __file__, *sys.argv[1:]])
     stop("no python3 with numpy is here (in Debian python3-numpy)")
 
-# (until the tools listen, Ctrl-C ends this without a word)
-if signal.getsignal(signal.SIGINT) is signal.default_int_handler:
-    signal.signal(signal.SIGINT, signal.SIG_DFL)
+from octofix.__main__ import run  # noqa: E402
+
 signal.pthread_sigmask(signal.SIG_UNBLOCK, {signal.SIGINT})
-
-from octofix.tools.command import run  # noqa: E402
-
 run()

@@ -8,4 +8,5 @@ if signal.getsignal(signal.SIGINT) is signal.default_int_handler:
 
 from .tools.command import run  # noqa: E402
 
-run()
+if __name__ == "__main__":
+    run()

@@ -145,6 +145,14 @@ class Reading(Processes):
 
 
 class Start(Processes):
+    def test_while_the_tools_are_imported(self):
+        """Without a word, also as pip starts them."""
+        with open("argparse.py", "w") as file:
+            file.write("import os, signal\nos.kill(os.getpid(), signal.SIGINT)\n")
+        self.before.add("argparse.py")
+        for words in (["-m", "octofix"], ["-c", "from octofix.__main__ import run; run()"]):
+            self.ends(self.start(*words, "info", "a.bt"), "", BY_CTRL_C)
+
     def test_without_the_library(self):
         """One line, and no map."""
         with mock.patch.dict(os.environ, OCTOFIX_LIBRARY="/nowhere.so"):
