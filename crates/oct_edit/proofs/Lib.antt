@@ -23,6 +23,7 @@ pub mod BrickParts
 pub mod BrickRounds
 pub mod BrickRest
 pub mod BrickCuts
+pub mod BrickFronts
 pub mod BrickSingles
 pub mod BrickWays
 pub mod Chains

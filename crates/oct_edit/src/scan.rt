@@ -1,9 +1,9 @@
 //! The events of a scan on all its voxels, in one pass over the tree.
 ghost use Rattle.std.specs.Prelude.{◌≡◌, ◌+◌, ◌-◌, ◌*◌, ◌/◌, ◌%◌, ◌^◌, ◌==◌, true, ◌≤◌};
 ghost use Rattle.std.specs.Prelude.{◌≤ℤ◌, ◌<◌, ◌⊎◌, [], All, Bool, IsTrue, IsSome, IfSome, IfNone};
-ghost use Rattle.std.specs.Prelude.{Some, None, false};
+ghost use Rattle.std.specs.Prelude.{Some, None, false, length, leb};
 ghost use Rattle.std.specs.Bool.{OnTrue, OnFalse};
-ghost use Rattle.std.specs.List.Sorted.{IsNonDecreasingBy};
+ghost use Rattle.std.specs.List.Sorted.{IsNonDecreasingBy, IsPartitionPoint};
 ghost use Rattle.oct_key.specs.Voxel.{Voxel, IsInMap};
 ghost use Rattle.oct_key.specs.Block.{Cube, block_of};
 ghost use Rattle.oct_odds.specs.Odds.{odds_of};
@@ -476,7 +476,29 @@ fn split_bricks<'a>(bricks: &'a [Brick], depth: u8, i: u8) -> (&'a [Brick], &'a 
     if depth == LAST_DEPTH {
         return bricks.split_at(1);
     }
+    if depth == LAST_DEPTH - 1 {
+        return bricks.split_at(count_front(bricks, depth, i));
+    }
     bricks.split_at(bricks.partition_point(|b| b.child_index(depth) <= i))
+}
+
+/// How many bricks at the front lie in the children up to i, counted one by one: of few bricks this
+/// takes fewer steps than halving, and steps that a processor foresees.
+fn count_front(bricks: &[Brick], depth: u8, i: u8) -> usize
+    requires depth { depth ≤ 13 }
+    requires order { IsNonDecreasingBy (λ b. brick_child depth b.code) bricks.now }
+    ensures bound { result ≤ length bricks.now }
+    ensures point { IsPartitionPoint (λ b. leb (brick_child depth b.code) i ≡ true)
+        (λ b. leb (brick_child depth b.code) i ≡ false) bricks.now result }
+{
+    let mut count = 0;
+    'front: while count < bricks.len() {
+        if bricks[count].child_index(depth) > i {
+            return count;
+        }
+        count += 1;
+    }
+    count
 }
 
 /// Whether some voxel of the bricks is hit.
