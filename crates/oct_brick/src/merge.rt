@@ -44,7 +44,7 @@ fn merge_by_keys(alloc: Global, bricks: &[Brick], keys: &[u64]) -> Result<Vec<Br
     ensures few { IfOk result (λ merged. vec_len merged ≤ length bricks.now) }
     ensures memory { OnErr result (0 < length bricks.now) }
 {
-    let mut merged = Vec::new(alloc);
+    let mut merged = Vec::with_capacity(alloc, bricks.len())?;
     for &key in keys {
         add(&mut merged, bricks[(key % MOST_KEYED) as usize])?;
     }
