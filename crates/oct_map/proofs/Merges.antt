@@ -2,7 +2,7 @@
 use Rattle.std.proofs.Common.{◌≡◌, ℕ, ◌+◌, ◌<◌, ◌≤◌, Bool, true, false, Some, None, Ok, Err, inl}
 use Rattle.std.proofs.Common.{inr, refl, sym, subst, ◌∙◌, ap, arith}
 use Rattle.std.specs.Prelude.{Option, ◌&&◌, not, ⊤, Result, nat_lt, if◌then◌else◌}
-use Rattle.std.specs.Prelude.{IfErr, IsTrue, IsSome, is_some}
+use Rattle.std.specs.Prelude.{IfErr, IsTrue, IsSome, OnOk, is_some}
 use Rattle.std.proofs.lemmas.Bool.{false≢true, cases_lt, lt-ltb, le-ltb}
 use Rattle.oct_key.specs.Voxel.{Voxel, IsInMap}
 use Rattle.oct_key.specs.Values.{Values, SameValues}
@@ -23,6 +23,7 @@ use Rattle.oct_change.proofs.Noting.{noted_none}
 use Rattle.oct_arena.specs.Entries.{home_at, live}
 use Rattle.oct_arena.specs.Nodes.{link_of}
 use Rattle.oct_tree.specs.Tree.{Tree, IsLinked, reach, value_at}
+use Rattle.oct_tree.specs.Changes.{IsGrown}
 use Rattle.oct_tree.specs.Shape.{IsPruned}
 use Rattle.oct_tree.proofs.Over.{over_lowest, over_home}
 use Rattle.oct_inner.specs.Changes.{IsShrunk}
@@ -30,7 +31,7 @@ use Rattle.oct_edit.proofs.Wholes.{same_total}
 use Rattle.oct_edit.specs.Edits.{IsEdited}
 use Rattle.oct_query.specs.Extent.{IsExtent, IsLeastBox}
 use Rattle.oct_query.proofs.Needed.{home_or_uniform, home_varied, pruned_groups}
-use Rattle.oct_merge.specs.Merged.{merge_event}
+use Rattle.oct_merge.specs.Merged.{merge_event, merge_events}
 use Rattle.oct_merge.specs.declared.rule.Rule.{Rule}
 use Rattle.oct_merge.specs.Need.{merge_need}
 use Rattle.oct_merge.specs.Walk.{is_split, is_needed}
@@ -40,12 +41,12 @@ use Rattle.oct_map.specs.declared.fault.MapFault.TheVariants.{Full, WideWhileTra
 use Rattle.oct_map.specs.Ground.{Ground}
 use Rattle.oct_map.specs.Map.{Map, IsMap, values_of}
 use Rattle.oct_map.specs.Answers.{IsAnswerOrMemory, most_noted, room_answer}
-use Rattle.oct_map.specs.Edits.{IsReadied, IsMapRefused, KeepsAllElse, LacksEntries, ReservesFew}
+use Rattle.oct_map.specs.Edits.{IsReadied, IsMapEdited, IsMapRefused, KeepsAllElse, LacksEntries, ReservesFew}
 use Rattle.oct_map.specs.Edits.{fitted_groups, entries_of}
 use Rattle.oct_map.specs.Marks.{classes_in, KeepsMark, SameMark}
 use Rattle.oct_map.specs.Notes.{HasMarked, HasRoomForNotes, IsNotedBehind, IsSameNoted, LacksNotes}
 use Rattle.oct_map.specs.Notes.{NotesFew, marked_by_notes}
-use Rattle.oct_map.specs.Merges.{IsInGiven, IsMergeRefused, IsMergeReserved}
+use Rattle.oct_map.specs.Merges.{IsInGiven, IsMergedInto, IsMergeRefused, IsMergeReserved}
 use Rattle.oct_map.specs.Merges.{IsPrunedAtMost, IsWide, given_events, given_volume}
 use Rattle.oct_map.specs.Merges.{is_parted_by, more_groups, note_answer, union_answer}
 use Rattle.oct_map.proofs.Rooms.{fitted_own, fitted_least}
@@ -193,14 +194,53 @@ pruned_refused m p n fault need to pruned h =
       stale = h.stale ∙ to.keeps.stale;
       mark = h.mark ∙ to.keeps.notes;
       live = omega (arith, fewer, still);
+      left = (let (t, fits, grown) = h.roomy in
+          (t, shrunk_on m.tree p.tree t to.shrunk fits.shrunk, grown));
       full = λ groups more e. (let (least, shrunk) = h.full groups more e in
           (least, shrunk_on m.tree p.tree n.tree to.shrunk shrunk));
     }
+
+-- what is done after pruning is done of the first map
+pub merged_into : (rule : Rule) (m o p q n : Map) (need : ℕ) (r : Result ⊤ MapFault)
+    → IsPrunedAtMost m p → SameValues (values_of o) (values_of q)
+    → OnOk r (IsMapEdited p n (merge_events rule (values_of p) (values_of q)) need false)
+    → OnOk r (IsMergedInto rule m o n)
+merged_into rule m o p q n need (Ok a) to theirs h = record {
+  fitted = h.fitted;
+  shrunk = shrunk_on m.tree p.tree h.fitted to.shrunk h.fits.shrunk;
+  events = merge_events rule (values_of p) (values_of q);
+  merging = λ k v. ap (λ a. merge_event rule a (values_of q k)) (sym (to.keeps.values k v))
+      ∙ ap (merge_event rule (values_of m k)) (sym (theirs k v));
+  edited = h.edited;
+}
+merged_into rule m o p q n need (Err fault) to theirs h = tt
 
 pub on_err : (m p n : Map) (need : ℕ) (r : Result ⊤ MapFault) → IsPrunedAtMost m p → IsPruned p.tree
     → IfErr r (λ fault. IsMapRefused p n fault need) → IfErr r (IsMergeRefused m n)
 on_err m p n need (Ok a) to pruned h = tt
 on_err m p n need (Err fault) to pruned h = pruned_refused m p n fault need to pruned h
+
+-- a tree as it was
+shrunk_itself : (t : Tree) → IsShrunk t t
+shrunk_itself t = record {
+  homes = λ x b home. home;
+  inner = λ p id v node. node;
+  length = refl;
+  live = omega arith;
+  spare = omega arith;
+  res = refl;
+  odds = refl;
+}
+
+grown_itself : (t : Tree) → IsGrown t t
+grown_itself t = record {
+  entries = λ x. refl;
+  length = omega arith;
+  spare = omega arith;
+  root = refl;
+  res = refl;
+  odds = refl;
+}
 
 -- what is refused before anything is done leaves the map
 pub refused_wide : (m : Map) (fault : MapFault) → IsWide fault → IsMergeRefused m m fault
@@ -209,6 +249,7 @@ refused_wide m fault (count, is) = record {
   stale = refl;
   mark = refl;
   live = omega arith;
+  left = (m.tree, shrunk_itself m.tree, grown_itself m.tree);
   full = λ groups more e. absurd (not_full groups more (sym e ∙ is));
 }
   where
@@ -410,15 +451,7 @@ noted_nothing has_mark extent mark is = rw (mark, is) refl
 pub pruned_itself : (m : Map) → IsPrunedAtMost m m
 pruned_itself m = record {
   same = λ _. refl;
-  shrunk = record {
-    homes = λ x b home. home;
-    inner = λ p id v node. node;
-    length = refl;
-    live = omega arith;
-    spare = omega arith;
-    res = refl;
-    odds = refl;
-  };
+  shrunk = shrunk_itself m.tree;
   keeps = record {
     setup = refl;
     values = λ k v. refl;

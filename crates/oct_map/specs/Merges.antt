@@ -2,7 +2,7 @@
 use Rattle.std.specs.Prelude.{◌≡◌, ℕ, ◌+◌, ◌≤◌, nat_lt, Bool, true, false, ◌&&◌, not, ⊤, ◌⊎◌}
 use Rattle.std.specs.Prelude.{Option, Some, None, Result, Ok, Err, count_by, if◌then◌else◌}
 use Rattle.oct_key.specs.Boxes.{IsInBox, Window, box_volume}
-use Rattle.oct_key.specs.Voxel.{Voxel}
+use Rattle.oct_key.specs.Voxel.{Voxel, IsInMap}
 use Rattle.oct_key.specs.Block.{Cube}
 use Rattle.oct_key.specs.Values.{Values, SameValues}
 use Rattle.oct_odds.specs.declared.event.Event.TheVariants.{Forget}
@@ -11,11 +11,14 @@ use Rattle.oct_values.specs.Counts.{is_uniform, group_count}
 use Rattle.oct_values.specs.Boxes.{box_events}
 use Rattle.oct_values.specs.Events.{Events}
 use Rattle.oct_arena.specs.Entries.{live}
+use Rattle.oct_tree.specs.Changes.{IsGrown}
 use Rattle.oct_tree.specs.Shape.{IsPruned}
+use Rattle.oct_tree.specs.Tree.{Tree}
+use Rattle.oct_edit.specs.Edits.{IsEdited}
 use Rattle.oct_inner.specs.Changes.{IsShrunk}
 use Rattle.oct_query.specs.Extent.{IsExtent, IsFound}
 use Rattle.oct_query.specs.declared.sought.Sought.TheVariants.{Known}
-use Rattle.oct_merge.specs.Merged.{merged}
+use Rattle.oct_merge.specs.Merged.{merge_event, merged}
 use Rattle.oct_merge.specs.declared.rule.Rule.{Rule}
 use Rattle.oct_map.specs.declared.fault.MapFault.{MapFault}
 use Rattle.oct_map.specs.declared.fault.MapFault.TheVariants.{Full, WideWhileTracked}
@@ -91,14 +94,30 @@ pub record IsPrunedAtMost (m p : Map) : Type 0 where
   pub shrunk : IsShrunk m.tree p.tree
   pub keeps : KeepsAllElse m p
 
+-- What a merge of the map o that is done leaves of a map: groups that its values don't need may be
+-- gone, and the tree is then edited by the events of the merge alone, which depend on the values of
+-- both. So inner values above no voxel that the other map knows stay, also where they are stale.
+pub record IsMergedInto (rule : Rule) (m o n : Map) : Type 0 where
+  pub fitted : Tree
+  pub shrunk : IsShrunk m.tree fitted
+  pub events : Events
+  pub merging : (k : Voxel) → IsInMap k
+      → events k ≡ merge_event rule (values_of m k) (values_of o k)
+  pub edited : IsEdited fitted n.tree events
+
+-- the tree of a map, without groups that its values don't need at most, and with vacant entries
+abbrev pub IsLeft : Map → Map → Type 0
+IsLeft m n = (t : Tree) × IsShrunk m.tree t × IsGrown t n.tree
+
 -- What a merge that is refused for this fault leaves of a map: each value, the stale flag and the
--- mark as they were, and no group more. One that is refused as full is pruned, and no more than
--- that.
+-- mark as they were, no group more, and each inner value that is left. One that is refused as full
+-- is pruned, and no more than that.
 pub record IsMergeRefused (m n : Map) (fault : MapFault) : Type 0 where
   pub values : SameValues (values_of m) (values_of n)
   pub stale : n.is_stale ≡ m.is_stale
   pub mark : n.mark ≡ m.mark
   pub live : live n.tree.groups ≤ live m.tree.groups
+  pub left : IsLeft m n
   pub full : (groups more : ℕ) → fault ≡ Full groups more
       → IsPruned n.tree × IsShrunk m.tree n.tree
 

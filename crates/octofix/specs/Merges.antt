@@ -9,9 +9,9 @@ use Rattle.oct_map.specs.Answers.{IsAnswerOrMemory}
 use Rattle.oct_map.specs.Edits.{entries_of}
 use Rattle.oct_map.specs.Map.{Map, IsMap, ground_of, values_of}
 use Rattle.oct_map.specs.Marks.{KeepsMark}
-use Rattle.oct_map.specs.Merges.{IsKnownBox, IsMergeRefused, IsMergeReserved, IsPrunedAtMost}
-use Rattle.oct_map.specs.Merges.{given_events, given_volume, merge_answer, merged_values}
-use Rattle.oct_map.specs.Merges.{more_groups, union_answer}
+use Rattle.oct_map.specs.Merges.{IsKnownBox, IsMergedInto, IsMergeRefused, IsMergeReserved}
+use Rattle.oct_map.specs.Merges.{IsPrunedAtMost, given_events, given_volume, merge_answer}
+use Rattle.oct_map.specs.Merges.{merged_values, more_groups, note_answer, union_answer}
 use Rattle.oct_map.specs.Notes.{LacksNotes, NotesFew}
 use Rattle.oct_map.specs.declared.fault.MapFault.{MapFault}
 use Rattle.oct_map.specs.declared.fault.MapFault.TheVariants as fault
@@ -55,8 +55,11 @@ pub record IsMapMerge (rule : Rule) (m o n p : Map) (done : Result ⊤ MapFault)
       × ((entries_of m < group_count (values_of m) + more_groups (values_of m) (values_of o))
       ⊎ ((extent : Option Window) → IsKnownBox o extent
       → LacksNotes m.mark (given_volume extent)))
+  pub narrow : done ≡ Err fault.Memory → (extent : Option Window) → IsKnownBox o extent
+      → IsOk (note_answer (is_some m.mark) extent)
   pub merged : OnOk done
       (SameValues (merged_values rule (values_of m) (values_of o)) (values_of n))
+  pub edited : OnOk done (IsMergedInto rule m o n)
   pub pruned : OnOk done (IsPruned n.tree)
   pub refused : IfErr done (IsMergeRefused m n)
   pub faulty : (count : ℕ) → done ≡ Err (fault.WideWhileTracked count) → (n ≡ m) × (p ≡ o)

@@ -13,7 +13,8 @@ ghost use Rattle.oct_map.specs.Edits.{IsMapEdited, IsMapRefused, LacksEntries, R
 ghost use Rattle.oct_map.specs.Edits.{entries_of};
 ghost use Rattle.oct_map.specs.Marks.{KeepsMark};
 ghost use Rattle.oct_map.specs.Notes.{LacksNotes, NotesFew};
-ghost use Rattle.oct_map.specs.Merges.{IsInGiven, IsKnownBox, IsMergeRefused, IsMergeReserved};
+ghost use Rattle.oct_map.specs.Merges.{IsInGiven, IsKnownBox, IsMergedInto, IsMergeRefused};
+ghost use Rattle.oct_map.specs.Merges.{IsMergeReserved};
 ghost use Rattle.oct_map.specs.Merges.{IsPrunedAtMost, IsWide, given_events, given_volume};
 ghost use Rattle.oct_map.specs.Merges.{merge_answer, merged_values, more_groups, note_answer};
 ghost use Rattle.oct_map.specs.Merges.{union_answer};
@@ -53,6 +54,7 @@ impl OccMap {
         ensures merged { OnOk result (SameValues
             (merged_values rule (values_of self.old) (values_of other.old))
             (values_of self.new)) }
+        ensures edited { OnOk result (IsMergedInto rule self.old other.old self.new) }
         ensures pruned { OnOk result (IsPruned self.new.tree) }
         ensures refused { IfErr result (IsMergeRefused self.old self.new) }
         ensures faulty { (count : ℕ) → result ≡ Err (MapFault.WideWhileTracked count)

@@ -12,7 +12,9 @@ said : (c : After-merge) → IsMapMerge c.args.rule c.args.map.now c.args.other.
 said c = record {
   answer = c.merge.ensures.answer;
   memory = c.merge.ensures.memory;
+  narrow = c.merge.ensures.narrow;
   merged = c.merge.ensures.merged;
+  edited = c.merge.ensures.edited;
   pruned = c.merge.ensures.pruned;
   refused = c.merge.ensures.refused;
   faulty = c.merge.ensures.faulty;

@@ -6,7 +6,8 @@ use Rattle.oct_map.specs.Merges.{IsMergeRefused, IsPrunedAtMost, IsWide, given_e
 use Rattle.oct_map.specs.Merges.{given_volume, more_groups, then_answer, union_answer}
 use Rattle.oct_map.proofs.Edits.{handed_as, if_err}
 use Rattle.oct_map.proofs.Marks.{few_after, same_few}
-use Rattle.oct_map.proofs.Merges.{given_few, lacks_given, never_wide, of_fault, on_err}
+use Rattle.oct_map.proofs.Merges.{given_few, lacks_given, merged_into, never_wide, of_fault}
+use Rattle.oct_map.proofs.Merges.{on_err}
 use Rattle.oct_map.proofs.Merges.{pruned_itself, pruned_lacks, pruned_limit, pruned_reserved}
 use Rattle.oct_map.proofs.Merges.{refused_wide, same_answer}
 use Rattle.oct_map.proofs.map.OccMap.merge.Goals.{After-prune-2}
@@ -83,6 +84,14 @@ returns-clause-memory c e =
             c.prune.ensures.notes notes))
       ],
     )
+
+pub returns-clause-edited : goal.returns-clause-edited
+returns-clause-edited c =
+    let p = (goal.at.returns-clause-edited c).After-prune-2 in
+    merged_into c.args.rule c.args.self.now c.args.other.now c.prune.new.self c.prune-2.new.self
+    c.merge_pruned.new.self
+    (more_groups (values_of c.prune.new.self) (values_of c.prune-2.new.self))
+    c.merge_pruned.result (mine p) c.prune-2.ensures.values c.merge_pruned.ensures.edited
 
 pub returns-clause-narrow : goal.returns-clause-narrow
 returns-clause-narrow c e extent is = subst IsOk (c.in_ok-noted.ensures.answer extent is) refl
