@@ -2,7 +2,9 @@
 use Rattle.std.proofs.Common.{◌≡◌, ℕ, ◌+◌, ◌≤◌, List, [], ◌∷◌, ◌++◌, ◌||◌, Bool, true, false, cond}
 use Rattle.std.proofs.Common.{is_some, IsSome, IsErr, Some, None, refl, Option, Result, Ok, Err}
 use Rattle.std.proofs.Common.{IfErr, IsErrAnd, inl, inr, sym, ap, subst, ◌∙◌, arith}
+use Rattle.oct_io.specs.Counts.{IsAskCounted}
 use Rattle.oct_io.specs.Files.{Files}
+use Rattle.oct_io.specs.declared.store.Store as store
 use Rattle.oct_io.specs.declared.store.StoreFault.{StoreFault}
 use Rattle.oct_io.specs.declared.store.StoreFault.TheVariants as store_fault
 use Rattle.oct_map.specs.Map.{Map}
@@ -19,7 +21,11 @@ use Rattle.oct_session.specs.Kinds.{Kind, Nothing, Opens, Adds, Closes, Orders, 
 use Rattle.oct_session.specs.Kinds.{Names, kind_of, left_of, rest_seen}
 use Rattle.oct_session.specs.declared.kinds.Rest as lent
 use Rattle.oct_session.specs.declared.kinds.Rest.TheVariants as rest
+use Rattle.oct_session.specs.declared.lent.Lent.{Lent}
+use Rattle.oct_session.specs.declared.lines.Parsed.{Parsed}
 use Rattle.oct_session.specs.declared.session.Session.{Session}
+use Rattle.oct_session.specs.Moments.{Works, HasParsed}
+use Rattle.oct_session.specs.Parsed.{command_in, TellsOpening}
 use Rattle.oct_session.specs.Commands.{FileWork, Saving, command_on, is_quit, asked_of}
 use Rattle.oct_session.specs.Commands.{kind_work, verb_work, named_in, file_named, asks_for}
 use Rattle.oct_session.specs.Commands.{map_reply, map_action, order_reply, order_action}
@@ -348,22 +354,28 @@ pub used_as : (r : Result (Option Reply) StoreFault) (m n : Map) (f g : Option F
 used_as r m n f g verb read name is used =
     subst (λ x. HasUsed x name m f n g r) (sym is) used
 
--- the effect of a command outside a block is that of what does it
-pub effect_by_kind : (r : Result (Option Reply) StoreFault) (m n : Map) (f g : Option Files)
-    (number : ℕ) (line : Line) (c : Command) (k : Kind) (block : Option ScanBlock) → k ≡ kind_of c →
-    HasEffect (KindEffect number k) (kind_work k) None m f n g block r →
-    HasEffect (λ files s. effect_opened files s (Ok c) (opened number line (Ok c)))
-    (asked_of (Ok c)) None m f n g block r
-effect_by_kind r m n f g number line c k block is took =
-    subst (λ x. HasEffect (KindEffect number x) (kind_work x) None m f n g block r) is took
+-- a call that does a command outside a block does what does it
+pub works_by_kind : {K F T : Type 0} (ghosts : store.Ghosts F) (d e : Lent K F)
+    (r : Result T StoreFault) (a : Option Reply) (number : ℕ) (line : Line) (c : Command) (k : Kind)
+    (block : Option ScanBlock) → k ≡ kind_of c
+    → Works ghosts (KindEffect number k) (kind_work k) None block d e r a
+    → Works ghosts (λ files s. effect_opened files s (Ok c) (opened number line (Ok c)))
+    (asked_of (Ok c)) None block d e r a
+works_by_kind ghosts d e r a number line c k block is took =
+    subst (λ x. Works ghosts (KindEffect number x) (kind_work x) None block d e r a) is took
 
--- a command that names a file asks the store once at most
-pub asked_once : (same : Type 0) (old new : ℕ) (c : Command) (verb : FileVerb) (name : List ℕ)
-    → Names verb name ≡ kind_of c → new ≤ old + 1
-    → IsAsked same old new (asks_for (file_named (Ok c)))
-asked_once same old new c verb name is few =
-    subst (λ x. IsAsked same old new (asks_for (named_in (kind_work x)))) is
-    (record { unasked = λ none. cc; few = few })
+-- a store that isn't asked is as it was
+pub unasked : {F : Type 0} (store : F) (calls asks : ℕ) → IsAsked (store ≡ store) calls calls asks
+unasked store calls asks = record { unasked = λ none. refl; few = omega arith }
+
+-- and fails for nothing where the call ends well, or where memory runs out
+pub well_counted : {T : Type 0} (x : T) (k : ℕ) → IsAskCounted {T = T} (Ok x) k k
+well_counted x k = record { stays = refl; failed = λ is. cc; memory = λ is. cc }
+
+pub ran_out : {T : Type 0} (r : Result T StoreFault) (j k : ℕ)
+    → IsErrAnd r (λ x. x ≡ store_fault.Memory) → k ≡ j → IsAskCounted r j k
+ran_out (Ok x) j k memory same = absurd memory
+ran_out (Err x) j k memory same = record { stays = tt; failed = λ is. cc; memory = λ is. same }
 
 -- a line that isn't in the grammar, where no block is open
 fault_before : (m : Map) (f : Option Files) (refusal : Refusal) (opens : Bool)
@@ -377,35 +389,40 @@ fault_before m f refusal false new a is told =
     λ files s finds at. (told ∙ ap (spoilt_reply refusal) is, is, at)
 
 -- such a line, wherever it stands
-pub fault_taken : (m : Map) (f : Option Files) (number : ℕ) (line : Line) (refusal : Refusal)
-    (old new : Option ScanBlock) (a : Option Reply) → new ≡ spoilt_by number line refusal old
-    → a ≡ spoilt_reply refusal new →
+pub fault_taken : (m : Map) (f : Option Files) (number : ℕ) (line : Line) (opens : Bool)
+    (refusal : Refusal) (old new : Option ScanBlock) (a : Option Reply) → opens ≡ opens_block line
+    → new ≡ spoilt_by number opens refusal old → a ≡ spoilt_reply refusal new →
     TakesEffect (λ files s. effect files s number line (Err refusal) old) None m f m f new a
-fault_taken m f number line refusal None new a is told =
-    fault_before m f refusal (opens_block line) new a is told
-fault_taken m f number line refusal (Some block) new a is told =
+fault_taken m f number line opens refusal None new a so is told =
+    subst (λ x. TakesEffect (λ files s. effect_opened files s (Err refusal)
+    (cond x (Some (Spoilt refusal)) None)) None m f m f new a) so
+    (fault_before m f refusal opens new a is told)
+fault_taken m f number line opens refusal (Some block) new a so is told =
     λ files s finds at. (told ∙ ap (spoilt_reply refusal) is, is, at)
 
--- the effect of a line on the command that was read of it
-pub effect_as_read : (r : Result (Option Reply) StoreFault) (m n : Map) (f g : Option Files)
-    (number : ℕ)
-    (line : Line) (c read : Result Command Refusal) (old new : Option ScanBlock) → c ≡ read →
-    HasEffect (λ files s. effect files s number line read old) (asked_of read) old m f n g new r
-    → HasEffect (λ files s. effect files s number line c old) (asked_of c) old m f n g new r
-effect_as_read r m n f g number line c read old new is took =
-    subst (λ x. HasEffect (λ files s. effect files s number line x old) (asked_of x) old m f n g
-    new r) (sym is) took
+-- a line of a call
+abbrev pub WorksAt : {K F T : Type 0} → store.Ghosts F → ℕ → Line → Result Command Refusal
+    → Option ScanBlock → Option ScanBlock → Lent K F → Lent K F → Result T StoreFault
+    → Option Reply → Type 0
+WorksAt ghosts number line c old new d e r a =
+    Works ghosts (λ files s. effect files s number line c old) (asked_of c) old new d e r a
 
--- the effect of a line where no block is open
-pub effect_before : (r : Result (Option Reply) StoreFault) (m n : Map) (f g : Option Files)
-    (number : ℕ) (line : Line) (c : Result Command Refusal) (old opens new : Option ScanBlock)
-    → is_some old ≡ false → opens ≡ opened number line c →
-    HasEffect (λ files s. effect_opened files s c opens) (asked_of c) None m f n g new r
-    → HasEffect (λ files s. effect files s number line c old) (asked_of c) old m f n g new r
-effect_before r m n f g number line c (Some inner) opens new none is took = cc
-effect_before r m n f g number line c None opens new none is took =
-    subst (λ x. HasEffect (λ files s. effect_opened files s c x) (asked_of c) None m f n g new r) is
-    took
+-- by the command that was read of it
+pub works_as_read : {K F T : Type 0} (ghosts : store.Ghosts F) (d e : Lent K F)
+    (r : Result T StoreFault) (a : Option Reply) (number : ℕ) (line : Line)
+    (c read : Result Command Refusal) (old new : Option ScanBlock) → c ≡ read
+    → WorksAt ghosts number line read old new d e r a → WorksAt ghosts number line c old new d e r a
+works_as_read ghosts d e r a number line c read old new is took =
+    subst (λ x. WorksAt ghosts number line x old new d e r a) (sym is) took
+
+-- where no block is open
+pub works_before : {K F T : Type 0} (ghosts : store.Ghosts F) (d e : Lent K F)
+    (r : Result T StoreFault) (a : Option Reply) (number : ℕ) (line : Line)
+    (c : Result Command Refusal) (old new : Option ScanBlock) → is_some old ≡ false
+    → Works ghosts (λ files s. effect_opened files s c (opened number line c)) (asked_of c) None new
+    d e r a → WorksAt ghosts number line c old new d e r a
+works_before ghosts d e r a number line c (Some inner) new none took = cc
+works_before ghosts d e r a number line c None new none took = took
 
 -- the command that was read is that of the next line
 pub same_command : (s : Session) (line : Line) (p : Progress) (c : Result Command Refusal)
@@ -438,6 +455,39 @@ pub record IsWorked (s : Session) (line : Line) (c : Result Command Refusal) (m 
   pub read : c ≡ command_on (is_some s.block) (s.line_count + 1) line
   pub took : HasEffect (λ files q. effect files q (s.line_count + 1) line c s.block) (asked_of c)
       s.block m f n g block r
+
+-- what was read of the next line, inside a block or outside
+pub read_next : (c : Result Command Refusal) (inside : Bool) (block : Option ScanBlock) (number : ℕ)
+    (line : Line) → c ≡ command_on inside number line → inside ≡ is_some block
+    → c ≡ command_on (is_some block) number line
+read_next c inside block number line read is =
+    subst (λ b. c ≡ command_on b number line) is read
+
+pub parsed_next : (s : Session) (line : Line) (parsed : Parsed) (inside : Bool)
+    → s.has_quit ≡ false → parsed.number ≡ s.line_count + 1
+    → command_in parsed ≡ command_on inside (s.line_count + 1) line → inside ≡ is_some s.block
+    → TellsOpening parsed line → HasParsed s line parsed
+parsed_next s line parsed inside running numbered read is opens = record {
+  running = running;
+  numbered = numbered;
+  read = read_next (command_in parsed) inside s.block (s.line_count + 1) line read is;
+  opens = opens;
+}
+
+-- so it was by a call that did the next line, of which this was read
+pub worked : {K F T : Type 0} (ghosts : store.Ghosts F) (s : Session) (line : Line)
+    (parsed : Parsed) (block : Option ScanBlock) (d e : Lent K F) (r : Result T StoreFault)
+    (a : Option Reply) → HasParsed s line parsed
+    → WorksAt ghosts parsed.number line (command_in parsed) s.block block d e r a
+    → IsWorked s line (command_in parsed) d.map.now e.map.now (ghosts.files d.store.now)
+    (ghosts.files e.store.now) block (with_reply r a)
+worked ghosts s line parsed block d e r a read w = record {
+  running = read.running;
+  read = read.read;
+  took = subst (λ n. HasEffect (λ files q. effect files q n line (command_in parsed) s.block)
+      (asked_of (command_in parsed)) s.block d.map.now (ghosts.files d.store.now) e.map.now
+      (ghosts.files e.store.now) block (with_reply r a)) read.numbered w.took;
+}
 
 -- the file that the line names is told, if it names one
 finds_line : (o : Setup) (s : Session) (line : Line) (p : Progress) (c : Result Command Refusal)

@@ -13,17 +13,25 @@ use Rattle.oct_io.specs.declared.sink.SinkFault.{SinkFault}
 use Rattle.oct_io.specs.declared.sink.SinkFault.TheVariants as sink_fault
 use Rattle.oct_io.specs.declared.stop.Stop.{Stop}
 use Rattle.oct_io.specs.declared.stop.Stop.TheVariants as stop
+use Rattle.oct_io.specs.declared.store.Store as store
 use Rattle.oct_io.specs.declared.store.StoreFault.{StoreFault}
 use Rattle.oct_io.specs.declared.store.StoreFault.TheVariants as store_fault
 use Rattle.oct_script.specs.Lines.{Line, LineSoFar}
 use Rattle.oct_session.specs.Commands.{may_change, command_on}
 use Rattle.oct_session.specs.Moments.{Moment, Move, IsCounted, IsDone, Passes, Makes, Answer}
 use Rattle.oct_session.specs.Moments.{AnswersTo, Take, stop_in, Answers}
-use Rattle.oct_session.specs.Moments.{fault_in, taken_of}
+use Rattle.oct_session.specs.Moments.{fault_in, taken_of, seen, HasParsed}
+use Rattle.oct_session.specs.Parsed.{command_in}
 use Rattle.oct_session.specs.Standing.{HasMoved, HoldsLine, IsShort}
 use Rattle.oct_session.specs.Standing.{seated, KeepsStanding}
 use Rattle.oct_session.specs.Setup.{Setup}
+use Rattle.oct_script.specs.declared.reply.Reply.{Reply}
+use Rattle.oct_session.specs.declared.lent.Lent.{Lent}
+use Rattle.oct_session.specs.declared.lines.Parsed.{Parsed}
+use Rattle.oct_session.specs.declared.scan_block.ScanBlock.{ScanBlock}
 use Rattle.oct_session.specs.declared.session.Session.{Session}
+use Rattle.oct_session.proofs.Effects.{WorksAt}
+use Rattle.oct_session.proofs.Idle.{idle_unasked}
 use Rattle.oct_session.proofs.Holding.{adds_more, rose_since, held_moved, held_more, IsClearNext}
 use Rattle.oct_session.proofs.Holding.{halted_before_line, halted_behind_line, halted_with_failed}
 use Rattle.oct_session.proofs.Holding.{halted_by_failed}
@@ -300,6 +308,43 @@ pub record IsBesideSink {F : Type 0} (line : Line) (a b : Moment F) : Type 0 whe
   pub unasked : may_change (command_on (is_some a.session.block) (a.session.line_count + 1) line)
       ≡ false → b.store_faults ≡ a.store_faults
   pub same : b.session.line ≡ a.session.line
+
+-- so it does where it does the line on what it is lent
+pub beside_sink : {K F T : Type 0} (sinks : sink.Ghosts K) (stores : store.Ghosts F)
+    (d e : Lent K F) (s t : Session) (line : Line) (parsed : Parsed) (block : Option ScanBlock)
+    (r : Result T StoreFault) (a : Option Reply) → HasParsed s line parsed
+    → WorksAt stores parsed.number line (command_in parsed) s.block block d e r a
+    → t.line ≡ s.line → IsBesideSink line (seen sinks stores d s) (seen sinks stores e t)
+beside_sink sinks stores d e s t line parsed block r a read w same = record {
+  map_name = w.map_name;
+  store_name = w.store_name;
+  sink_name = w.sink_name;
+  written = ap sinks.written w.sink;
+  stands = w.stands;
+  sink_faults = ap sinks.faults w.sink;
+  shortages = ap sinks.shortages w.sink;
+  unasked = λ idle. ap stores.faults (w.asks.unasked (idle_unasked _ _ read.read idle));
+  same = same;
+}
+
+-- a line that was done
+pub answers_told : {F : Type 0} (line : Line) (a b : Moment F) → IsBesideSink line a b
+    → b.store_faults ≡ a.store_faults → AnswersTo line a b None → Answers line a b None
+answers_told line a b beside asked to = record {
+  done = record {
+    map_name = beside.map_name;
+    store_name = beside.store_name;
+    sink_name = beside.sink_name;
+    adds = ([], beside.written ∙ appended_nil a.written);
+    stands = beside.stands;
+    counted = (beside.sink_faults, beside.shortages, asked);
+  };
+  unwritten = beside.written;
+  shortages = beside.shortages;
+  unasked = beside.unasked;
+  same = beside.same;
+  to = to;
+}
 
 -- a line that the store failed, or memory
 pub answers_failed : {F T U : Type 0} (r : Result T StoreFault) (own : StoreFault) (line : Line)

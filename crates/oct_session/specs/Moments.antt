@@ -3,7 +3,9 @@ use Rattle.std.specs.Prelude.{◌≡◌, ℕ, ◌+◌, ◌^◌, ◌<◌, ◌≤�
 use Rattle.std.specs.Prelude.{is_some}
 use Rattle.std.specs.Prelude.{false, ◌≢◌, Option, Some, None, option_map, Result, Ok, Err}
 use Rattle.std.specs.Prelude.{OnOk, OnErr}
-use Rattle.oct_io.specs.Counts.{IsWriteCounted, IsMakingCounted}
+use Rattle.oct_io.specs.Counts.{IsWriteCounted, IsMakingCounted, IsAskCounted}
+use Rattle.oct_io.specs.FaultCounts.{IsAsked}
+use Rattle.oct_io.specs.Files.{Files}
 use Rattle.oct_io.specs.Stops.{stop_of_store, status_of, IsHalt}
 use Rattle.oct_io.specs.Taken.{IsCutOff}
 use Rattle.oct_io.specs.Told.{Rose, appended}
@@ -15,17 +17,21 @@ use Rattle.oct_io.specs.declared.store.Store as store
 use Rattle.oct_io.specs.declared.store.StoreFault.{StoreFault}
 use Rattle.oct_map.specs.Map.{Map}
 use Rattle.oct_script.specs.Lines.{Line, ended_lines, all_lines}
-use Rattle.oct_session.specs.Commands.{command_on, may_change}
+use Rattle.oct_script.specs.declared.reply.Reply.{Reply}
+use Rattle.oct_session.specs.Commands.{FileWork, command_on, may_change, named_in, asks_for}
+use Rattle.oct_session.specs.History.{State}
 use Rattle.oct_session.specs.Leaving.{Desk}
-use Rattle.oct_session.specs.Parsed.{command_in, IsSmallLine}
-use Rattle.oct_session.specs.Session.{Progress, closed}
+use Rattle.oct_session.specs.Parsed.{command_in, TellsOpening}
+use Rattle.oct_session.specs.Session.{Progress, Effect, closed}
 use Rattle.oct_session.specs.Setup.{Setup}
+use Rattle.oct_session.specs.Standing.{with_reply, HasEffect}
 use Rattle.oct_session.specs.Standing.{Seat, seated, desk_of, KeepsStanding, Adds, HasMoved}
 use Rattle.oct_session.specs.Standing.{TakesLine, FailsLine, HoldsLine, HaltsLine, TakesHeld}
 use Rattle.oct_session.specs.Standing.{HaltsHeld, Halts, Reaches, HaltsAtEnd, Takes, StopsIn}
 use Rattle.oct_session.specs.Standing.{IsInStep, IsCutBy, IsResting, Finishes, Ends}
 use Rattle.oct_session.specs.declared.lent.Lent.{Lent}
 use Rattle.oct_session.specs.declared.lines.Parsed.{Parsed}
+use Rattle.oct_session.specs.declared.scan_block.ScanBlock.{ScanBlock}
 use Rattle.oct_session.specs.declared.session.Session.{Session}
 
 -- ---- a moment
@@ -107,13 +113,31 @@ pub record IsReady (session : Session) : Type 0 where
   pub running : session.has_quit ≡ false
   pub room : HasRoom session 1
 
--- the session goes on, has room for this line, and this was read of it
+-- the session goes on, and this was read of its next line
 pub record HasParsed (session : Session) (line : Line) (parsed : Parsed) : Type 0 where
   pub running : session.has_quit ≡ false
-  pub few : session.line_count < 2 ^ 63
+  pub numbered : parsed.number ≡ session.line_count + 1
   pub read : command_in parsed
       ≡ command_on (is_some session.block) (session.line_count + 1) line
-  pub small : IsSmallLine parsed
+  pub opens : TellsOpening parsed line
+
+-- a call that does a line on what it is lent, where the first block was open before it and the
+-- other one is after it: the line had its effect, or it failed; the store was asked once at most
+-- where it names a file; the sink wasn't
+pub record Works {K F T : Type 0} (ghosts : store.Ghosts F)
+    (effect : Option Files → State → Effect) (asked : Option FileWork)
+    (before after : Option ScanBlock) (d e : Lent K F) (result : Result T StoreFault)
+    (reply : Option Reply) : Type 0 where
+  pub took : HasEffect effect asked before d.map.now (ghosts.files d.store.now) e.map.now
+      (ghosts.files e.store.now) after (with_reply result reply)
+  pub stands : KeepsStanding d.map.now e.map.now
+  pub asks : IsAsked (e.store.now ≡ d.store.now) (ghosts.calls d.store.now)
+      (ghosts.calls e.store.now) (asks_for (named_in asked))
+  pub counts : IsAskCounted result (ghosts.faults d.store.now) (ghosts.faults e.store.now)
+  pub map_name : e.map.ghost_name ≡ d.map.ghost_name
+  pub store_name : e.store.ghost_name ≡ d.store.ghost_name
+  pub sink_name : e.sink.ghost_name ≡ d.sink.ghost_name
+  pub sink : e.sink.now ≡ d.sink.now
 
 -- the fault that a call ended with, if one
 abbrev pub fault_in : {T E : Type 0} → Result T E → Option E

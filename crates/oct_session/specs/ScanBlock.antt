@@ -81,10 +81,10 @@ with_line number (Err refusal) (Scanning scan) = Spoilt refusal
 with_line number (Ok command) (Scanning scan) = with_kind number (kind_of command) scan
 
 -- the block that is open after a line that isn't in the grammar: the one that was open, or the one
--- that the line opens
-abbrev pub spoilt_by : ℕ → Line → Refusal → Option ScanBlock → Option ScanBlock
-spoilt_by number line refusal None = opened number line (Err refusal)
-spoilt_by number line refusal (Some block) = Some (with_line number (Err refusal) block)
+-- that the line opens, if it opens one
+abbrev pub spoilt_by : ℕ → Bool → Refusal → Option ScanBlock → Option ScanBlock
+spoilt_by number opens refusal None = if opens then Some (Spoilt refusal) else None
+spoilt_by number opens refusal (Some block) = Some (with_line number (Err refusal) block)
 
 -- the reply to such a line, which has none where a block is open after it
 abbrev pub spoilt_reply : Refusal → Option ScanBlock → Option Reply

@@ -152,6 +152,7 @@ fn work_through(
     let mut store = MemoryStore::new(alloc);
     let mut script = Generator::new(seed, scans, points);
     let mut lent = Lent {
+        alloc,
         map,
         store: &mut store,
         sink: &mut Discard {},

@@ -1,26 +1,23 @@
 //! What a line does: its reply, and the block that is open after it.
 ghost use Rattle.std.specs.Prelude.{◌≡◌, ℕ, None, Ok, Some};
-ghost use Rattle.oct_io.specs.Counts.{IsAskCounted};
 ghost use Rattle.oct_script.specs.Commands.{IsSmallCommand};
 ghost use Rattle.oct_script.specs.Lines.{Line};
-ghost use Rattle.oct_io.specs.FaultCounts.{IsAsked};
-ghost use Rattle.oct_session.specs.Commands.{asked_of, asks_for, command_on, file_named, is_quit};
-ghost use Rattle.oct_session.specs.Commands.{may_change};
-ghost use Rattle.oct_session.specs.ScanBlock.{is_end, opened, spoilt_by, spoilt_reply};
-ghost use Rattle.oct_session.specs.Session.{effect_opened, effect_inside};
-ghost use Rattle.oct_session.specs.Parsed.{command_in, IsSmallLine};
-ghost use Rattle.oct_session.specs.Session.{effect};
-ghost use Rattle.oct_session.specs.Standing.{with_reply, HasEffect, HasWorked, KeepsStanding};
+ghost use Rattle.oct_session.specs.Commands.{asked_of, command_on, is_quit, may_change};
+ghost use Rattle.oct_session.specs.Moments.{Works};
+ghost use Rattle.oct_session.specs.ScanBlock.{is_end, opened, opens_block, spoilt_by, spoilt_reply};
+ghost use Rattle.oct_session.specs.Session.{effect, effect_opened, effect_inside};
+ghost use Rattle.oct_session.specs.Parsed.{command_in, IsSmallLine, TellsOpening};
+ghost use Rattle.oct_session.specs.Standing.{with_reply, HasWorked};
 
 use crate::commands::{by_map, finish};
 use crate::files::use_file;
 use crate::kinds::{Kind, Rest, kind_of, rest_of};
-use crate::scan_block::{ScanBlock, open_scan, spoil};
-use oct_io::{Store, StoreFault};
+use crate::lent::Lent;
+use crate::scan_block::{ScanBlock, open_scan, opens_block, spoil};
+use oct_io::{Sink, Store, StoreFault};
 use oct_map::OccMap;
 use oct_num::Memory;
 use oct_script::{Command, ReadLine, Refusal, Reply, parse_into};
-use std::alloc::Global;
 
 /// Whether a command closes a block.
 fn is_end(command: &Command) -> bool
@@ -60,10 +57,14 @@ fn may_change(command: &Command) -> bool
 /// What was read of a line, in a place of its own, so that no command is moved from call to call.
 #[derive(Clone, Copy)]
 pub struct Parsed {
+    /// The number of the line, from 1 on.
+    number: u64,
     /// The command on the line, where it has one.
     command: Command,
     /// Why it has none.
     refusal: Option<Refusal>,
+    /// Whether it has none, and opens a block all the same.
+    opens: bool,
 }
 
 impl Parsed {
@@ -72,19 +73,25 @@ impl Parsed {
         ensures { command_in result ≡ Ok Command.Blank }
     {
         Parsed {
+            number: 0,
             command: Command::Blank,
             refusal: None,
+            opens: false,
         }
     }
 
     /// Reads the line of this number, inside the block of a scan or outside.
     pub fn read(&mut self, line: &ReadLine<'_>, number: u64, inside: bool)
+        ensures numbered { self.new.number ≡ number }
         ensures exact { command_in self.new ≡ command_on inside number line.now }
+        ensures opens { TellsOpening self.new line.now }
         ensures small { IsSmallLine self.new }
     {
+        self.number = number;
         self.refusal = None;
         if line.is_long() {
             self.refusal = Some(Refusal::LongLine { line: number });
+            self.opens = false;
             return;
         }
         if let Err(syntax) = parse_into(line.text(), inside, &mut self.command) {
@@ -92,6 +99,7 @@ impl Parsed {
                 line: number,
                 column: syntax.column,
             });
+            self.opens = opens_block(line);
         }
     }
 
@@ -111,133 +119,107 @@ impl Parsed {
 }
 
 /// What a command does outside a block.
-fn outside<F: Store>(
-    alloc: Global,
-    map: &mut OccMap,
-    store: &mut F,
-    number: u64,
-    command: &Command,
+fn outside<K: Sink, F: Store>(
+    lent: &mut Lent<'_, K, F>,
+    parsed: &Parsed,
     block: &mut Option<ScanBlock>,
     reply: &mut Option<Reply>,
 ) -> Result<(), StoreFault>
-    requires small { IsSmallCommand command.now }
+    requires small { IsSmallCommand parsed.now.command }
     requires closed { block.old ≡ None }
-    ensures effect { (line : Line) → HasEffect
-        (λ files s. effect_opened files s (Ok command.now) (opened number line (Ok command.now)))
-        (asked_of (Ok command.now)) None map.old (F.files store.old) map.new (F.files store.new)
-        block.new (with_reply result reply.new) }
-    ensures stands { KeepsStanding map.old map.new }
-    ensures asked { IsAsked (store.new ≡ store.old) (F.calls store.old) (F.calls store.new)
-        (asks_for (file_named (Ok command.now))) }
-    ensures store_counts { IsAskCounted result (F.faults store.old) (F.faults store.new) }
+    ensures { (line : Line) → Works F.Store (λ files s. effect_opened files s
+        (Ok parsed.now.command) (opened parsed.now.number line (Ok parsed.now.command)))
+        (asked_of (Ok parsed.now.command)) None block.new lent.old lent.new result reply.new }
 {
-    by_map(map, command, reply)?;
-    match rest_of(command) {
+    by_map(lent.map, &parsed.command, reply)?;
+    match rest_of(&parsed.command) {
         Rest::Nothing => Ok(()),
         Rest::Opens(head) => {
-            open_scan(alloc, number, head, block);
+            open_scan(lent.alloc, parsed.number, head, block);
             Ok(())
         }
-        Rest::Names(verb, name) => use_file(alloc, map, store, verb, name, reply),
+        Rest::Names(verb, name) => use_file(lent.alloc, lent.map, lent.store, verb, name, reply),
     }
 }
 
 /// What a command does inside a block.
 fn inside(
     map: &mut OccMap,
-    number: u64,
-    command: &Command,
+    parsed: &Parsed,
     block: &mut Option<ScanBlock>,
     reply: &mut Option<Reply>,
 ) -> Result<(), Memory>
-    requires { IsSmallCommand command.now }
+    requires { IsSmallCommand parsed.now.command }
     ensures { (first : ScanBlock) → block.old ≡ Some first
-        → HasWorked (λ s. effect_inside s number (Ok command.now) first) first map.old map.new
-        block.new (with_reply result reply.new) }
+        → HasWorked (λ s. effect_inside s parsed.now.number (Ok parsed.now.command) first) first
+        map.old map.new block.new (with_reply result reply.new) }
 {
     let Some(standing) = block.take() else {
         return Ok(());
     };
-    if is_end(command) {
+    if is_end(&parsed.command) {
         return finish(map, standing, reply);
     }
     *reply = None;
-    *block = Some(standing.with_command(number, command)?);
+    *block = Some(standing.with_command(parsed.number, &parsed.command)?);
     Ok(())
 }
 
 /// Does what a command says, where a block is open or none.
-fn take_command<F: Store>(
-    alloc: Global,
-    map: &mut OccMap,
-    store: &mut F,
-    number: u64,
-    command: &Command,
+fn take_command<K: Sink, F: Store>(
+    lent: &mut Lent<'_, K, F>,
+    parsed: &Parsed,
     block: &mut Option<ScanBlock>,
     reply: &mut Option<Reply>,
 ) -> Result<(), StoreFault>
-    requires { IsSmallCommand command.now }
-    ensures effect { (line : Line) → HasEffect
-        (λ files s. effect files s number line (Ok command.now) block.old)
-        (asked_of (Ok command.now)) block.old map.old (F.files store.old) map.new
-        (F.files store.new) block.new (with_reply result reply.new) }
-    ensures stands { KeepsStanding map.old map.new }
-    ensures asked { IsAsked (store.new ≡ store.old) (F.calls store.old) (F.calls store.new)
-        (asks_for (file_named (Ok command.now))) }
-    ensures store_counts { IsAskCounted result (F.faults store.old) (F.faults store.new) }
+    requires { IsSmallCommand parsed.now.command }
+    ensures { (line : Line) → Works F.Store
+        (λ files s. effect files s parsed.now.number line (Ok parsed.now.command) block.old)
+        (asked_of (Ok parsed.now.command)) block.old block.new lent.old lent.new result reply.new }
 {
     if block.is_some() {
-        inside(map, number, command, block, reply)?;
+        inside(lent.map, parsed, block, reply)?;
         return Ok(());
     }
-    outside(alloc, map, store, number, command, block, reply)
+    outside(lent, parsed, block, reply)
 }
 
 /// What a line does that isn't in the grammar: it spoils the block that is open, or the one that it
 /// opens, and is refused where it does neither.
 fn take_fault(
-    line: &ReadLine<'_>,
+    opens: bool,
     refusal: Refusal,
     block: &mut Option<ScanBlock>,
     reply: &mut Option<Reply>,
 )
-    ensures block { (number : ℕ) → block.new ≡ spoilt_by number line.now refusal block.old }
+    ensures block { (number : ℕ) → block.new ≡ spoilt_by number opens refusal block.old }
     ensures reply { reply.new ≡ spoilt_reply refusal block.new }
 {
-    spoil(line, refusal, block);
+    spoil(opens, refusal, block);
     *reply = match block {
         None => Some(Reply::Refused(refusal)),
         Some(_) => None,
     };
 }
 
-/// Does what the line of this number says, of which this was read, inside a block or outside, and
-/// leaves the block that is open afterwards and the reply in their places. Where it failed, nothing
-/// was done, but for the file that it names.
-pub fn take_line<F: Store>(
-    alloc: Global,
-    map: &mut OccMap,
-    store: &mut F,
-    line: &ReadLine<'_>,
-    number: u64,
+/// Does what the line says of which this was read, inside a block or outside, and leaves the block
+/// that is open afterwards and the reply in their places. Where it failed, nothing was done, but
+/// for the file that it names.
+pub fn take_line<K: Sink, F: Store>(
+    lent: &mut Lent<'_, K, F>,
     parsed: &Parsed,
     block: &mut Option<ScanBlock>,
     reply: &mut Option<Reply>,
 ) -> Result<(), StoreFault>
     requires { IsSmallLine parsed.now }
-    ensures effect { HasEffect
-        (λ files s. effect files s number line.now (command_in parsed.now) block.old)
-        (asked_of (command_in parsed.now)) block.old map.old (F.files store.old) map.new
-        (F.files store.new) block.new (with_reply result reply.new) }
-    ensures stands { KeepsStanding map.old map.new }
-    ensures asked { IsAsked (store.new ≡ store.old) (F.calls store.old) (F.calls store.new)
-        (asks_for (file_named (command_in parsed.now))) }
-    ensures store_counts { IsAskCounted result (F.faults store.old) (F.faults store.new) }
+    ensures { (line : Line) → TellsOpening parsed.now line → Works F.Store
+        (λ files s. effect files s parsed.now.number line (command_in parsed.now) block.old)
+        (asked_of (command_in parsed.now)) block.old block.new lent.old lent.new result reply.new }
 {
     match parsed.refusal {
-        None => take_command(alloc, map, store, number, &parsed.command, block, reply),
+        None => take_command(lent, parsed, block, reply),
         Some(refusal) => {
-            take_fault(line, refusal, block, reply);
+            take_fault(parsed.opens, refusal, block, reply);
             Ok(())
         }
     }

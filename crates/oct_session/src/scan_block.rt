@@ -176,7 +176,7 @@ impl ScanBlock {
 }
 
 /// Whether a line opens a block, whatever its other words are.
-fn opens_block(line: &ReadLine<'_>) -> bool
+pub fn opens_block(line: &ReadLine<'_>) -> bool
     ensures { result ≡ opens_block line.now }
 {
     !line.is_long() && opens_scan(line.text())
@@ -191,13 +191,13 @@ pub fn open_scan(alloc: Global, number: u64, head: &ScanHead, block: &mut Option
 }
 
 /// Spoils the block that is open, or the one that a faulty line opens.
-pub fn spoil(line: &ReadLine<'_>, refusal: Refusal, block: &mut Option<ScanBlock>)
-    ensures { (number : ℕ) → block.new ≡ spoilt_by number line.now refusal block.old }
+pub fn spoil(opens: bool, refusal: Refusal, block: &mut Option<ScanBlock>)
+    ensures { (number : ℕ) → block.new ≡ spoilt_by number opens refusal block.old }
 {
     match block.take() {
         Some(standing) => *block = Some(standing.spoilt(refusal)),
         None => {
-            if opens_block(line) {
+            if opens {
                 *block = Some(ScanBlock::Spoilt(refusal));
             }
         }

@@ -123,7 +123,12 @@ pub fn serve<S: Source, K: Sink, F: Store>(
         → result ≢ Status.Memory → IsWhole result }
 {
     let mut session = Session::new(alloc);
-    let mut lent = Lent { map, store, sink };
+    let mut lent = Lent {
+        alloc,
+        map,
+        store,
+        sink,
+    };
     match read_all(options, &mut lent, &mut session, source) {
         Ok(()) => done_or_refused(session.refused),
         Err(stop) => Status::from(stop),

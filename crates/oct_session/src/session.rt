@@ -1,9 +1,10 @@
 //! A session between two bytes of its script, and what its lines do to it.
-ghost use Rattle.std.specs.Prelude.{◌≡◌, ◌<◌, ◌≤◌, [], length, OnOk, IfOk, false};
-ghost use Rattle.oct_script.specs.Lines.{unread};
+ghost use Rattle.std.specs.Prelude.{◌≡◌, ◌<◌, ◌≤◌, ◌^◌, [], length, OnOk, IfOk, false};
+ghost use Rattle.oct_script.specs.Lines.{unread, Line};
 ghost use Rattle.oct_script.specs.Replies.{is_refusal};
 ghost use Rattle.oct_session.specs.Moments.{seen, HasParsed, Answers, fault_in, IsReady, HasRoom};
 ghost use Rattle.oct_session.specs.Moments.{Does, Answer, Take, Rest, End, taken_of, Closes};
+ghost use Rattle.oct_session.specs.Parsed.{IsSmallLine};
 ghost use Rattle.oct_session.specs.ScanBlock.{end_reply};
 ghost use Rattle.oct_session.specs.Standing.{IsFresh};
 
@@ -20,8 +21,6 @@ use std::mem::replace;
 /// A session between two bytes of its script.
 #[derive(Drop)]
 pub struct Session {
-    /// Where memory comes from.
-    alloc: Global,
     /// The line that is being read.
     pub line: Lines,
     /// The block that is open, if one is.
@@ -61,7 +60,6 @@ impl Session {
         ensures { IsFresh result }
     {
         Session {
-            alloc,
             line: Lines::new(),
             block: None,
             line_count: 0,
@@ -72,29 +70,26 @@ impl Session {
         }
     }
 
-    /// Does what a line says, of which this was read, and holds its reply. After an error what is
-    /// held is as it was.
+    /// Does what the next line says, of which this was read, and holds its reply. After an error
+    /// what is held is as it was.
     fn answer<K: Sink, F: Store>(
         &mut self,
         lent: &mut Lent<'_, K, F>,
-        line: &ReadLine<'_>,
         parsed: &Parsed,
     ) -> Result<(), StoreFault>
-        requires { HasParsed self.old line.now parsed.now }
-        ensures { Answers line.now (seen K.Sink F.Store lent.old self.old)
+        requires few { self.old.line_count < 2 ^ 63 }
+        requires small { IsSmallLine parsed.now }
+        ensures { (line : Line) → HasParsed self.old line parsed.now
+            → Answers line (seen K.Sink F.Store lent.old self.old)
             (seen K.Sink F.Store lent.new self.new) (fault_in result) }
     {
-        let number = self.line_count + 1;
-        let block = &mut self.block;
         let mut reply = None;
-        take_line(
-            self.alloc, lent.map, lent.store, line, number, parsed, block, &mut reply,
-        )?;
+        take_line(lent, parsed, &mut self.block, &mut reply)?;
         tell(&mut self.text, &reply)?;
         self.refused |= is_refused(&reply);
         self.tally.count(&reply);
         self.has_quit = parsed.is_quit();
-        self.line_count = number;
+        self.line_count += 1;
         Ok(())
     }
 
@@ -113,7 +108,7 @@ impl Session {
         let mut parsed = Parsed::new();
         parsed.read(line, self.line_count + 1, self.block.is_some());
         make_way(&parsed, &mut self.text, lent.sink)?;
-        match self.answer(lent, line, &parsed) {
+        match self.answer(lent, &parsed) {
             Ok(()) => {
                 hold_few(&mut self.text, lent.sink)?;
                 Ok(())

@@ -1,7 +1,7 @@
-use Rattle.std.proofs.Common.{◌+◌, ◌∙◌, ap, refl}
-use Rattle.oct_session.specs.Commands.{command_on}
+use Rattle.std.proofs.Common.{◌+◌, refl}
 use Rattle.oct_session.specs.Moments.{seen}
 use Rattle.oct_session.proofs.Holding.{clear_next}
+use Rattle.oct_session.proofs.Effects.{parsed_next, read_next}
 use Rattle.oct_session.proofs.Moves.{makes_on, line_unwritten, line_held, line_unheld, line_failed}
 use Rattle.oct_session.proofs.Moves.{failed_unwritten}
 use Rattle.oct_session.proofs.session.Session.respond.Goals as goal
@@ -21,10 +21,11 @@ returns-in_ok-hold_few-in-Ok-clause-does g c =
     (record { counted = refl; block = refl; refused = refl; has_quit = refl; tally = refl })
     c.in_ok-make_way.ensures.passes
     (clear_next c.make_way.new.text.items c.args.self.now.block
-    (c.args.self.now.line_count + 1) c.args.line.now _ (c.read.ensures.exact
-    ∙ ap (λ b. command_on b (c.args.self.now.line_count + 1) c.args.line.now) c.is_some.ensures)
-    c.in_ok-make_way.ensures.clear)
-    c.in-Ok.ensures c.in_ok-hold_few-in-Ok.ensures.passes c.in_ok-hold_few-in-Ok.ensures.few
+    (c.args.self.now.line_count + 1) c.args.line.now _ (read_next _ _ _ _ _ c.read.ensures.exact
+    c.is_some.ensures) c.in_ok-make_way.ensures.clear)
+    (c.in-Ok.ensures c.args.line.now (parsed_next _ _ _ _ c.requires.running c.read.ensures.numbered
+    c.read.ensures.exact c.is_some.ensures c.read.ensures.opens))
+    c.in_ok-hold_few-in-Ok.ensures.passes c.in_ok-hold_few-in-Ok.ensures.few
 
 pub returns-in_err-hold_few-in-Ok-clause-does : goal.returns-in_err-hold_few-in-Ok-clause-does
 returns-in_err-hold_few-in-Ok-clause-does g c =
@@ -36,10 +37,11 @@ returns-in_err-hold_few-in-Ok-clause-does g c =
     (record { counted = refl; block = refl; refused = refl; has_quit = refl; tally = refl })
     c.in_ok-make_way.ensures.passes
     (clear_next c.make_way.new.text.items c.args.self.now.block
-    (c.args.self.now.line_count + 1) c.args.line.now _ (c.read.ensures.exact
-    ∙ ap (λ b. command_on b (c.args.self.now.line_count + 1) c.args.line.now) c.is_some.ensures)
-    c.in_ok-make_way.ensures.clear)
-    c.in-Ok.ensures c.in_err-hold_few-in-Ok.ensures.passes)
+    (c.args.self.now.line_count + 1) c.args.line.now _ (read_next _ _ _ _ _ c.read.ensures.exact
+    c.is_some.ensures) c.in_ok-make_way.ensures.clear)
+    (c.in-Ok.ensures c.args.line.now (parsed_next _ _ _ _ c.requires.running c.read.ensures.numbered
+    c.read.ensures.exact c.is_some.ensures c.read.ensures.opens))
+    c.in_err-hold_few-in-Ok.ensures.passes)
 
 pub returns-in_err-flush-in-Err-clause-does : goal.returns-in_err-flush-in-Err-clause-does
 returns-in_err-flush-in-Err-clause-does g c =
@@ -51,10 +53,11 @@ returns-in_err-flush-in-Err-clause-does g c =
     (record { counted = refl; block = refl; refused = refl; has_quit = refl; tally = refl })
     c.in_ok-make_way.ensures.passes
     (clear_next c.make_way.new.text.items c.args.self.now.block
-    (c.args.self.now.line_count + 1) c.args.line.now _ (c.read.ensures.exact
-    ∙ ap (λ b. command_on b (c.args.self.now.line_count + 1) c.args.line.now) c.is_some.ensures)
-    c.in_ok-make_way.ensures.clear)
-    c.in-Err.ensures c.in_err-flush-in-Err.ensures.passes)
+    (c.args.self.now.line_count + 1) c.args.line.now _ (read_next _ _ _ _ _ c.read.ensures.exact
+    c.is_some.ensures) c.in_ok-make_way.ensures.clear)
+    (c.in-Err.ensures c.args.line.now (parsed_next _ _ _ _ c.requires.running c.read.ensures.numbered
+    c.read.ensures.exact c.is_some.ensures c.read.ensures.opens))
+    c.in_err-flush-in-Err.ensures.passes)
 
 pub returns-in_ok-flush-in-Err-clause-does : goal.returns-in_ok-flush-in-Err-clause-does
 returns-in_ok-flush-in-Err-clause-does g c =
@@ -62,5 +65,7 @@ returns-in_ok-flush-in-Err-clause-does g c =
     (seen g.K.Sink g.F.Store c.answer.new.lent c.answer.new.self) _ _ _ _ c.args.self.now _
     c.answer.new.self _ c.args.line.now _ _ _ c.from.result c.from.ensures c.requires.running
     (record { counted = refl; block = refl; refused = refl; has_quit = refl; tally = refl })
-    c.in_ok-make_way.ensures.passes c.in-Err.ensures c.in_ok-flush-in-Err.ensures.passes
+    c.in_ok-make_way.ensures.passes (c.in-Err.ensures c.args.line.now (parsed_next _ _ _ _ c.requires.running c.read.ensures.numbered
+    c.read.ensures.exact c.is_some.ensures c.read.ensures.opens))
+    c.in_ok-flush-in-Err.ensures.passes
     c.flush.ensures.empty
