@@ -1,6 +1,9 @@
 # How the program and the library are built and kept, in POSIX sh. The caller sets `root`, and has
 # read words.sh.
 
+# (what Python is to leave out are the texts that the tools show, and make the man page of)
+unset PYTHONOPTIMIZE
+
 fail() {
     say "$1"
     exit 9

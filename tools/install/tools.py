@@ -27,7 +27,8 @@ if sys.version_info < (3, 9):
     stop("Python 3.9 or newer is needed")
 prefix = os.path.dirname(os.path.dirname(os.path.realpath(__file__)))
 sys.path.insert(0, os.path.join(prefix, "@PACKAGES@"))
-os.environ.setdefault("OCTOFIX_LIBRARY", os.path.join(prefix, "@LIB@/lib@NAME@.so.1"))
+if not os.environ.get("OCTOFIX_LIBRARY"):
+    os.environ["OCTOFIX_LIBRARY"] = os.path.join(prefix, "@LIB@/lib@NAME@.so.1")
 # (the tools import it, once they listen to Ctrl-C)
 if importlib.util.find_spec("numpy") is None:
     if sys.executable != SYSTEM and os.access(SYSTEM, os.X_OK):

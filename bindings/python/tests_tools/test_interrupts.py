@@ -162,6 +162,12 @@ class Start(Processes):
         self.assertRegex(said, wanted)
         self.assertEqual((run.returncode, content_of("a.bt")), (4, b"2 0 0\n"))
 
+    def test_without_docstrings(self):
+        """As Python is to optimize."""
+        run = self.start("-OO", "-m", "octofix", "info", "wanted.bt")
+        came, said = run.communicate(timeout=30)
+        self.assertEqual((came[:10], said, run.returncode), (b"resolution", b"", 0))
+
     def test_without_numpy(self):
         with open("numpy.py", "w") as file:
             file.write("raise ModuleNotFoundError('it is gone', name='numpy')\n")

@@ -41,7 +41,9 @@ class LastOne(argparse.Action):
 def parser():
     from octofix import __version__
 
-    top = argparse.ArgumentParser("octofix", description=__doc__.split(":")[0], epilog=STATUSES)
+    # (Python that is to optimize leaves texts as these out)
+    about = (__doc__ or "").split(":")[0]
+    top = argparse.ArgumentParser("octofix", description=about, epilog=STATUSES)
     top.add_argument("--version", action="version", version=f"octofix {__version__}")
     below = top.add_subparsers(dest="command", metavar="COMMAND", required=True)
     for name in COMMANDS:
