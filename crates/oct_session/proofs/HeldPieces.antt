@@ -68,18 +68,16 @@ held_ended o v u d e s f t reading piece running ends beside same answers next f
     }
 
 -- and a halt there
-pub held_halted : {short : Type 0} {T H : Type 0} (r : Result T Stop) (stop : Stop) (o : Setup)
-    (v u : Option (List ℕ)) (d e : H → Desk) (s f : Session) (reading : LineSoFar)
-    (piece : List ℕ) (k : ℕ)
-    → IsErrAnd r (λ x. x ≡ stop) → s.has_quit ≡ false →
+pub held_halted : {short H : Type 0} (stop : Stop) (o : Setup) (v u : Option (List ℕ))
+    (d e : H → Desk) (s f : Session) (reading : LineSoFar) (piece : List ℕ) (k : ℕ)
+    → s.has_quit ≡ false →
     ((bytes : List ℕ) → IsReading s.line bytes → HasEnded reading bytes (bytes ++ take k piece))
     → IsBeside f s → f.text.items ≡ s.text.items →
     HaltsLine o (seated d v) (seated e u) f reading.line short (status_of stop) →
-    IfErr r (λ stop. HaltsHeld o (seated d v) (seated e u) s
-    (λ bytes. ended_lines (bytes ++ piece)) short (status_of stop))
-held_halted {short} (Ok x) stop o v u d e s f reading piece k is running ends beside same halts = tt
-held_halted {short} (Err x) stop o v u d e s f reading piece k is running ends beside same halts =
-    λ first files w bytes at known.
+    HaltsHeld o (seated d v) (seated e u) s (λ bytes. ended_lines (bytes ++ piece)) short
+    (status_of stop)
+held_halted {short} stop o v u d e s f reading piece k running ends beside same halts
+    first files w bytes at known =
     let done : HasEnded reading bytes (bytes ++ take k piece) = ends bytes (at.line running) in
     let front : IsKnown (progress o files (ended_lines (bytes ++ take k piece))) =
     known_bytes o files (bytes ++ take k piece) (drop k piece)
@@ -92,12 +90,10 @@ held_halted {short} (Err x) stop o v u d e s f reading piece k is running ends b
     let halted : IsHalted o files (ended_lines (bytes ++ take k piece)) w u (e first) short
     (status_of stop) =
     subst (λ x. IsHalted o files x w u (e first) short (status_of stop)) (sym done.lines) h in
-    subst (λ y. IsHalted o files (ended_lines (bytes ++ piece)) w u (e first) short (status_of y))
-    (sym is)
-    (subst (λ x. IsHalted o files (ended_lines x) w u (e first) short (status_of stop))
+    subst (λ x. IsHalted o files (ended_lines x) w u (e first) short (status_of stop))
     (parts bytes piece k)
     (halted_bytes o files (bytes ++ take k piece) (drop k piece) w u (e first) (status_of stop)
-    halted))
+    halted)
 
 -- a line that has ended
 abbrev pub ended_line : Line → LineSoFar
@@ -111,26 +107,22 @@ whole_read old text piece line is ends bytes at =
     subst (λ l. HasEnded (ended_line l) bytes (bytes ++ piece)) (sym is) (ends bytes at)
 
 -- a line that was fed, answered by a session that has begun the next one
-pub fed_more : {T H : Type 0} (r : Result T Stop) (o : Setup) (v u : Option (List ℕ))
-    (d e : H → Desk) (s f t : Session) (line : Line) → line ≡ s.line.line → IsBeside f s
-    → f.text.items ≡ s.text.items →
-    OnOk r (HoldsLine o (seated d v) (seated e u) f t line) →
-    OnOk r (HoldsLine o (seated d v) (seated e u) s t s.line.line)
-fed_more (Err stop) o v u d e s f t line is beside same answers = tt
-fed_more (Ok x) o v u d e s f t line is beside same answers = λ first files lines w known at.
+pub fed_more : {H : Type 0} (o : Setup) (v u : Option (List ℕ)) (d e : H → Desk)
+    (s f t : Session) (line : Line) → line ≡ s.line.line → IsBeside f s
+    → f.text.items ≡ s.text.items → HoldsLine o (seated d v) (seated e u) f t line
+    → HoldsLine o (seated d v) (seated e u) s t s.line.line
+fed_more o v u d e s f t line is beside same answers first files lines w known at =
     subst (λ x. HasHeld o files (lines ++ x ∷ []) w u (e first) t) is
     (answers first files lines w (subst (λ x. IsKnown (progress o files (lines ++ x ∷ []))) (sym is)
     known) (held_beside o files lines w v (d first) s f beside same at))
 
 -- and a halt there
-pub fed_halted : {T H : Type 0} (short : Type 0) (r : Result T Stop) (o : Setup)
-    (v u : Option (List ℕ)) (d e : H → Desk) (s f : Session) (line : Line) → line ≡ s.line.line
-    → IsBeside f s → f.text.items ≡ s.text.items →
-    IfErr r (λ stop. HaltsLine o (seated d v) (seated e u) f line short (status_of stop)) →
-    IfErr r (λ stop. HaltsLine o (seated d v) (seated e u) s s.line.line short (status_of stop))
-fed_halted short (Ok x) o v u d e s f line is beside same halts = tt
-fed_halted short (Err stop) o v u d e s f line is beside same halts =
-    λ first files lines w known at.
+pub fed_halted : {short H : Type 0} (stop : Stop) (o : Setup) (v u : Option (List ℕ))
+    (d e : H → Desk) (s f : Session) (line : Line) → line ≡ s.line.line → IsBeside f s
+    → f.text.items ≡ s.text.items
+    → HaltsLine o (seated d v) (seated e u) f line short (status_of stop)
+    → HaltsLine o (seated d v) (seated e u) s s.line.line short (status_of stop)
+fed_halted {short} stop o v u d e s f line is beside same halts first files lines w known at =
     subst (λ x. IsHalted o files (lines ++ x ∷ []) w u (e first) short (status_of stop)) is
     (halts first files lines w (subst (λ x. IsKnown (progress o files (lines ++ x ∷ []))) (sym is)
     known) (held_beside o files lines w v (d first) s f beside same at))
@@ -184,16 +176,15 @@ held_last o a v u d e s t f has_rest running some none last answers wrote beside
     })
 
 -- a halt at it
-pub last_halted : {short : Type 0} {T H : Type 0} (r : Result T Stop) (stop : Stop) (o : Setup)
-    (a u : Option (List ℕ)) (d e : H → Desk) (s : Session) (has_rest : Bool)
-    → IsErrAnd r (λ x. x ≡ stop) → s.has_quit ≡ false → has_rest ≡ true → s.text.items ≡ [] →
+pub last_halted : {short H : Type 0} (stop : Stop) (o : Setup) (a u : Option (List ℕ))
+    (d e : H → Desk) (s : Session) (has_rest : Bool) → s.has_quit ≡ false → has_rest ≡ true
+    → s.text.items ≡ [] →
     ((bytes : List ℕ) → IsReading s.line bytes
     → last_line (rest_of bytes) ≡ cond has_rest (s.line.line ∷ []) []) → Adds a u →
-    HaltsLine o (seated d a) (seated e u) s s.line.line short (status_of stop) →
-    IfErr r (λ stop. Halts o (seated d a) (seated e u) s all_lines short (status_of stop))
-last_halted {short} (Ok x) stop o a u d e s has_rest is running some none last adds halts = tt
-last_halted {short} (Err x) stop o a u d e s has_rest is running some none last adds halts =
-    λ first files w bytes at known.
+    HaltsLine o (seated d a) (seated e u) s s.line.line short (status_of stop)
+    → Halts o (seated d a) (seated e u) s all_lines short (status_of stop)
+last_halted {short} stop o a u d e s has_rest running some none last adds halts
+    first files w bytes at known =
     let lines : all_lines bytes ≡ ended_lines bytes ++ s.line.line ∷ [] =
     last_lines bytes s.line.line
     (standing s bytes has_rest true some (last bytes (at.line running))) in
@@ -203,8 +194,7 @@ last_halted {short} (Err x) stop o a u d e s has_rest is running some none last 
     known_before o files (ended_lines bytes) (s.line.line ∷ []) line in
     let h = halts first files (ended_lines bytes) w line
     ((held_first o files w a (d first) s bytes none at).reached before) in (
-      subst (λ y. IsHalted o files (all_lines bytes) w u (e first) short (status_of y)) (sym is)
-          (subst (λ y. IsHalted o files y w u (e first) short (status_of stop)) (sym lines) h),
+      subst (λ y. IsHalted o files y w u (e first) short (status_of stop)) (sym lines) h,
       replied_since o files w a u (d first) s bytes before at adds,
     )
 

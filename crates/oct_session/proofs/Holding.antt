@@ -286,17 +286,13 @@ held_more o v x d e s f t line running beside moved clear takes first files line
     }
 
 -- a call that gives up when a part of what is held is written, before a line
-pub halted_before_line : {short : Type 0} {T H : Type 0} (r : Result T Stop) (fault : SinkFault)
-    (o : Setup)
-    (v u : Option (List ℕ)) (d : H → Desk) (s : Session) (line : Line)
-    → IsErrAnd r (λ x. x ≡ stop_of_sink fault) → IsCutOff v u s.text.items → IsShort fault short →
-    IfErr r (λ stop. HaltsLine o (seated d v) (seated d u) s line short (status_of stop))
-halted_before_line {short} (Ok y) fault o v u d s line is cut ran = absurd is
-halted_before_line {short} (Err y) fault o v u d s line is cut ran = λ first files lines w known at.
-    subst (λ z. IsHalted o files (lines ++ line ∷ []) w u (d first) short (status_of z))
-    (sym is)
-    (holding_cut o files (lines ++ line ∷ []) lines (line ∷ []) w v u s.text.items
-    (d first) fault refl at.holding cut at.between.like at.between.asked ran)
+pub halted_before_line : {short H : Type 0} (fault : SinkFault) (o : Setup)
+    (v u : Option (List ℕ)) (d : H → Desk) (s : Session) (line : Line) → IsCutOff v u s.text.items
+    → IsShort fault short
+    → HaltsLine o (seated d v) (seated d u) s line short (status_of (stop_of_sink fault))
+halted_before_line fault o v u d s line cut ran first files lines w known at =
+    holding_cut o files (lines ++ line ∷ []) lines (line ∷ []) w v u s.text.items (d first) fault
+    refl at.holding cut at.between.like at.between.asked ran
 
 -- the same, after some lines
 pub held_cut : {short : Type 0} (o : Setup) (files : Option Files) (lines : List Line)
@@ -308,18 +304,14 @@ held_cut o files lines w v u d s fault cut ran at =
     holding_cut o files lines lines [] w v u s.text.items d fault (sym (append-nil lines))
     at.holding cut at.between.like at.between.asked ran
 
-pub halted_behind_line : {short : Type 0} {T H : Type 0} (r : Result T Stop) (fault : SinkFault)
-    (o : Setup)
+pub halted_behind_line : {short H : Type 0} (fault : SinkFault) (o : Setup)
     (v x u : Option (List ℕ)) (d e : H → Desk) (s t : Session) (line : Line)
-    → IsErrAnd r (λ y. y ≡ stop_of_sink fault) → IsCutOff x u t.text.items → IsShort fault short
-    → HoldsLine o (seated d v) (seated e x) s t line →
-    IfErr r (λ stop. HaltsLine o (seated d v) (seated e u) s line short (status_of stop))
-halted_behind_line {short} (Ok y) fault o v x u d e s t line is cut ran more = absurd is
-halted_behind_line {short} (Err y) fault o v x u d e s t line is cut ran more =
-    λ first files lines w known at.
-    subst (λ z. IsHalted o files (lines ++ line ∷ []) w u (e first) short (status_of z)) (sym is)
-    (held_cut o files (lines ++ line ∷ []) w x u (e first) t fault cut ran
-    (more first files lines w known at))
+    → IsCutOff x u t.text.items → IsShort fault short
+    → HoldsLine o (seated d v) (seated e x) s t line
+    → HaltsLine o (seated d v) (seated e u) s line short (status_of (stop_of_sink fault))
+halted_behind_line fault o v x u d e s t line cut ran more first files lines w known at =
+    held_cut o files (lines ++ line ∷ []) w x u (e first) t fault cut ran
+    (more first files lines w known at)
 
 -- a part of what is held was written behind a line that has failed: that line was done, with no
 -- room for its reply, or it wasn't
@@ -352,51 +344,37 @@ failed_cut o files lines line w v u held d fault store_fault.Memory k running h 
     holding_cut o files (lines ++ line ∷ []) lines (line ∷ []) w v u held d fault refl h
     (k, less, wrote) none (subst (HasAsked d) idle.asks asked) ran
 
-pub halted_with_failed : {short : Type 0} {T H : Type 0} (r : Result T Stop) (fault : SinkFault)
-    (own : StoreFault)
-    (o : Setup) (v x u : Option (List ℕ)) (d e : H → Desk) (s f : Session) (line : Line)
-    (held : List ℕ)
-    → IsErrAnd r (λ y. y ≡ stop_of_sink fault) → s.has_quit ≡ false → IsBeside f s
-    → HasMoved v x s.text.items f.text.items
+pub halted_with_failed : {short H : Type 0} (fault : SinkFault) (own : StoreFault) (o : Setup)
+    (v x u : Option (List ℕ)) (d e : H → Desk) (s f : Session) (line : Line) (held : List ℕ)
+    → s.has_quit ≡ false → IsBeside f s → HasMoved v x s.text.items f.text.items
     → held ≡ f.text.items → IsCutOff x u held → IsShort fault short
-    → IsClearNext f.text.items f.block (f.line_count + 1) line → FailsLine o d e f line own →
-    IfErr r (λ stop. HaltsLine o (seated d v) (seated e u) s line short (status_of stop))
-halted_with_failed {short}
-    (Ok y) fault own o v x u d e s f line held is running beside moved kept cut ran
-    clear stopped = absurd is
-halted_with_failed {short} (Err y) fault own o v x u d e s f line held is running beside moved
-    kept
-    (k, less, wrote)
-    ran clear stopped = λ first files lines w known at.
+    → IsClearNext f.text.items f.block (f.line_count + 1) line → FailsLine o d e f line own
+    → HaltsLine o (seated d v) (seated e u) s line short (status_of (stop_of_sink fault))
+halted_with_failed fault own o v x u d e s f line held running beside moved kept (k, less, wrote)
+    ran clear stopped first files lines w known at =
     let p : Progress = progress o files lines in
     let here = between_beside o (d first) s f p beside at.between in
     let b = stopped first p (subst IsKnown (progress_push o files lines line) known) here in
-    subst (λ z. IsHalted o files (lines ++ line ∷ []) w u (e first) short (status_of z))
-    (sym is)
-    (failed_cut o files lines line w x u f.text.items (e first) fault own k
+    failed_cut o files lines line w x u f.text.items (e first) fault own k
     (sym at.between.step.has_quit ∙ running)
     (holding_moved o files lines w v x s.text.items f.text.items at.holding moved)
     (subst (λ l. k < length l) kept less) (wrote ∙ ap (λ l. appended x (take k l)) kept)
-    (clear_read f p line here.step clear) b.beside b.asked ran)
+    (clear_read f p line here.step clear) b.beside b.asked ran
 
 -- a line that has failed, when all that was held is written
-pub halted_by_failed : {short : Type 0} {H : Type 0} (stop : Stop) (fault : StoreFault) (o : Setup)
+pub halted_by_failed : {short H : Type 0} (fault : StoreFault) (o : Setup)
     (v x u : Option (List ℕ)) (d e : H → Desk) (s f : Session) (line : Line) (held : List ℕ)
-    → stop ≡ stop_of_store fault → s.has_quit ≡ false → IsBeside f s
-    → HasMoved v x s.text.items f.text.items → held ≡ f.text.items → u ≡ appended x held
-    → FailsLine o d e f line fault
-    → HaltsLine o (seated d v) (seated e u) s line short (status_of stop)
-halted_by_failed {short} stop fault o v x u d e s f line held is running beside moved kept wrote
-    stopped
+    → s.has_quit ≡ false → IsBeside f s → HasMoved v x s.text.items f.text.items
+    → held ≡ f.text.items → u ≡ appended x held → FailsLine o d e f line fault
+    → HaltsLine o (seated d v) (seated e u) s line short (status_of (stop_of_store fault))
+halted_by_failed fault o v x u d e s f line held running beside moved kept wrote stopped
     first files lines w known at =
     let p : Progress = progress o files lines in
     let here = between_beside o (d first) s f p beside at.between in
-    subst (λ z. IsHalted o files (lines ++ line ∷ []) w u (e first) short (status_of z))
-    (sym is)
-    (halted_last o files lines line w u (e first) (status_of (stop_of_store fault))
+    halted_last o files lines line w u (e first) (status_of (stop_of_store fault))
     (halted_untold o w u (d first) (e first) f line p fault (beside.has_quit ∙ running) (record {
       between = here;
       written = holding_whole o files lines w x u f.text.items
           (holding_moved o files lines w v x s.text.items f.text.items at.holding moved)
           (wrote ∙ ap (appended x) kept);
-    }) (stopped first p (subst IsKnown (progress_push o files lines line) known) here)))
+    }) (stopped first p (subst IsKnown (progress_push o files lines line) known) here))

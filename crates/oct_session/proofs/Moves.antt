@@ -120,32 +120,26 @@ halts_store store_fault.Failed = tt
 halts_store store_fault.Memory = tt
 
 -- what was held was written, or stays
+counted_passed : {K F T : Type 0} (ghosts : sink.Ghosts K) (m : Moment F) (x y : K) (s t : Session)
+    (held rest : List ℕ) (r : Result T SinkFault) → Passes ghosts x y held rest r
+    → IsCounted (other ghosts x s m) (other ghosts y t m) (option_map stop_of_sink (fault_in r))
+counted_passed ghosts m x y s t held rest (Ok i) p =
+    (p.counts.stays.0, p.counts.stays.1, refl)
+counted_passed ghosts m x y s t held rest (Err sink_fault.Failed) p =
+    ((p.counts.failed refl).0, (p.counts.failed refl).1, refl)
+counted_passed ghosts m x y s t held rest (Err sink_fault.Memory) p =
+    ((p.counts.memory refl).0, inr (p.counts.memory refl).1, refl)
+
 pub done_passed : {K F T : Type 0} (ghosts : sink.Ghosts K) (m : Moment F) (x y : K) (s t : Session)
     (held rest : List ℕ) (r : Result T SinkFault) → Passes ghosts x y held rest r
     → IsDone (other ghosts x s m) (other ghosts y t m) (option_map stop_of_sink (fault_in r))
-done_passed ghosts m x y s t held rest (Ok i) p = record {
+done_passed ghosts m x y s t held rest r p = record {
   map_name = refl;
   store_name = refl;
   sink_name = refl;
   adds = p.adds;
   stands = λ o some. some;
-  counted = (p.counts.stays.0, p.counts.stays.1, refl);
-}
-done_passed ghosts m x y s t held rest (Err sink_fault.Failed) p = record {
-  map_name = refl;
-  store_name = refl;
-  sink_name = refl;
-  adds = p.adds;
-  stands = λ o some. some;
-  counted = ((p.counts.failed refl).0, (p.counts.failed refl).1, refl);
-}
-done_passed ghosts m x y s t held rest (Err sink_fault.Memory) p = record {
-  map_name = refl;
-  store_name = refl;
-  sink_name = refl;
-  adds = p.adds;
-  stands = λ o some. some;
-  counted = ((p.counts.memory refl).0, inr (p.counts.memory refl).1, refl);
+  counted = counted_passed ghosts m x y s t held rest r p;
 }
 
 -- a sink that ran out of memory ran short of it
@@ -161,16 +155,13 @@ pub line_unwritten : {K F T : Type 0} (ghosts : sink.Ghosts K) (m : Moment F) (x
     (s t : Session) (line : Line) (fault : SinkFault)
     → Passes {K = K} {T = T} ghosts x y s.text.items t.text.items (Err fault)
     → Makes (Answer line) (other ghosts x s m) (other ghosts y t m) (Some (stop_of_sink fault))
-line_unwritten ghosts m x y s t line fault p =
-    let r : Result ⊤ Stop = Err (stop_of_sink fault) in
-    record {
-      done = done_passed ghosts m x y s t _ _ (Err fault) p;
-      to = (
-        halts_sink fault,
-        λ o. halted_before_line r fault o _ _ m.desk s line refl p.cut
-            (ran_short ghosts x y _ _ fault p),
-      );
-    }
+line_unwritten ghosts m x y s t line fault p = record {
+  done = done_passed ghosts m x y s t _ _ (Err fault) p;
+  to = (
+    halts_sink fault,
+    λ o. halted_before_line fault o _ _ m.desk s line p.cut (ran_short ghosts x y _ _ fault p),
+  );
+}
 
 -- a line that is answered behind what is held
 line_more : {K F T : Type 0} (ghosts : sink.Ghosts K) (m n : Moment F) (x y z : K)
@@ -217,22 +208,20 @@ pub line_unheld : {K F T U : Type 0} (ghosts : sink.Ghosts K) (m n : Moment F) (
     → Answers line (other ghosts y f m) (other ghosts z u n) None
     → Passes {K = K} {T = U} ghosts z w u.text.items t.text.items (Err fault)
     → Makes (Answer line) (other ghosts x s m) (other ghosts w t n) (Some (stop_of_sink fault))
-line_unheld ghosts m n x y z w s f u t line i fault running beside way clear two hold =
-    let r : Result ⊤ Stop = Err (stop_of_sink fault) in
-    record {
-      done = done_join (other ghosts x s m) (other ghosts y f m) (other ghosts w t n) _
-          (done_passed ghosts m x y s f _ _ (Ok i) way)
-          (done_join (other ghosts y f m) (other ghosts z u n) (other ghosts w t n) _ two.done
-          (done_passed ghosts n z w u t _ _ (Err fault) hold));
-      to = (
-        halts_sink fault,
-        λ o. halted_behind_line r fault o _ _ _ m.desk n.desk s u line refl
-            (subst (λ a. IsCutOff a (ghosts.written w) u.text.items) two.unwritten hold.cut)
-            (λ e. rose_since _ _ _ (two.shortages ∙ way.counts.stays.1)
-            (ran_short ghosts z w _ _ fault hold e))
-            (line_more ghosts m n x y z s f u line i o running beside way clear two),
-      );
-    }
+line_unheld ghosts m n x y z w s f u t line i fault running beside way clear two hold = record {
+  done = done_join (other ghosts x s m) (other ghosts y f m) (other ghosts w t n) _
+      (done_passed ghosts m x y s f _ _ (Ok i) way)
+      (done_join (other ghosts y f m) (other ghosts z u n) (other ghosts w t n) _ two.done
+      (done_passed ghosts n z w u t _ _ (Err fault) hold));
+  to = (
+    halts_sink fault,
+    λ o. halted_behind_line fault o _ _ _ m.desk n.desk s u line
+        (subst (λ a. IsCutOff a (ghosts.written w) u.text.items) two.unwritten hold.cut)
+        (λ e. rose_since _ _ _ (two.shortages ∙ way.counts.stays.1)
+        (ran_short ghosts z w _ _ fault hold e))
+        (line_more ghosts m n x y z s f u line i o running beside way clear two),
+  );
+}
 
 -- the sink doesn't fail where a line does
 sink_kept : {F : Type 0} (a b : Moment F) (own : StoreFault)
@@ -258,7 +247,6 @@ pub failed_unwritten : {K F T U : Type 0} (ghosts : sink.Ghosts K) (m n : Moment
     → Passes {K = K} {T = U} ghosts z w u.text.items t.text.items (Err fault)
     → Makes (Answer line) (other ghosts x s m) (other ghosts w t n) (Some (stop_of_sink fault))
 failed_unwritten ghosts m n x y z w s f u t line i own fault running beside way clear two flush =
-    let r : Result ⊤ Stop = Err (stop_of_sink fault) in
     let quiet : IsDone (other ghosts y f m) (other ghosts z u n) None = record {
       map_name = two.done.map_name;
       store_name = two.done.store_name;
@@ -279,7 +267,7 @@ failed_unwritten ghosts m n x y z w s f u t line i own fault running beside way 
           (done_passed ghosts n z w u t _ _ (Err fault) flush));
       to = (
         halts_sink fault,
-        λ o. halted_with_failed r fault own o _ _ _ m.desk n.desk s f line u.text.items refl running
+        λ o. halted_with_failed fault own o _ _ _ m.desk n.desk s f line u.text.items running
             beside way.moved two.to.0
             (subst (λ a. IsCutOff a (ghosts.written w) u.text.items) two.unwritten flush.cut)
             (λ e. rose_since _ _ _ (two.shortages ∙ way.counts.stays.1)
@@ -418,8 +406,8 @@ line_failed ghosts m n x y z w s f u t line i j own why is running beside way tw
           (done_passed ghosts n z w u t _ _ (Ok j) flush));
       to = (
         halts_store own,
-        λ o. halted_by_failed (stop_of_store own) own o _ _ _ m.desk n.desk s f line u.text.items
-            refl running beside way.moved two.to.0
+        λ o. halted_by_failed own o _ _ _ m.desk n.desk s f line u.text.items running beside
+            way.moved two.to.0
             (subst (λ a. ghosts.written w ≡ appended a u.text.items) two.unwritten
             (all_written _ _ _ _ flush.moved none)) (two.to.1 o),
       );
@@ -463,24 +451,22 @@ pub fed : {F : Type 0} (m b : Moment F) (l : LineSoFar) (line : Line) (how : Opt
     → Makes (Answer m.session.line.line) m b how
 fed m b l line None is p =
     let f : Session = record m.session { line = l } in
-    let r : Result ⊤ Stop = Ok tt in
     record {
       done = done_same m b f None p.done;
       to = (
         λ more room. p.to.0 more (record { held = room.held; few = room.few }),
-        λ o. fed_more r o _ _ m.desk b.desk m.session f b.session line is
+        λ o. fed_more o _ _ m.desk b.desk m.session f b.session line is
             (record { counted = refl; block = refl; refused = refl; has_quit = refl; tally = refl })
             refl (p.to.1 o),
       );
     }
 fed m b l line (Some why) is p =
     let f : Session = record m.session { line = l } in
-    let r : Result ⊤ Stop = Err why in
     record {
       done = done_same m b f (Some why) p.done;
       to = (
         p.to.0,
-        λ o. fed_halted _ r o _ _ m.desk b.desk m.session f line is
+        λ o. fed_halted why o _ _ m.desk b.desk m.session f line is
             (record { counted = refl; block = refl; refused = refl; has_quit = refl; tally = refl })
             refl (p.to.1 o),
       );

@@ -19,7 +19,7 @@ use Rattle.oct_io.specs.declared.sink.SinkFault.TheVariants as sink_fault
 use Rattle.oct_io.specs.declared.stop.Stop.{Stop}
 use Rattle.oct_script.specs.Lines.{Line, LineSoFar, IsReading, HasEnded, HasJoined, unread}
 use Rattle.oct_script.specs.Lines.{ended_lines, all_lines, last_line, rest_of}
-use Rattle.oct_session.specs.Moments.{Moment, IsDone, Passes, Makes, Answer}
+use Rattle.oct_session.specs.Moments.{Moment, IsCounted, IsDone, Passes, Makes, Answer}
 use Rattle.oct_session.specs.Moments.{IsReady, Take, Rest, End, Closes}
 use Rattle.oct_session.specs.Moments.{HasRoom, fault_in}
 use Rattle.oct_session.specs.Session.{progress}
@@ -76,16 +76,14 @@ pub takes_halt : {F : Type 0} (m b : Moment F) (f : Session) (reading : LineSoFa
     → HasEnded reading bytes (bytes ++ take n piece)) → IsSame f m.session
     → Makes (Answer reading.line) (of_session f m) b (Some why)
     → Makes (Take piece) m b (Some why)
-takes_halt m b f reading piece n why running ends same p =
-    let r : Result ⊤ Stop = Err why in
-    record {
-      done = done_same m b f (Some why) p.done;
-      to = (
-        p.to.0,
-        λ o. held_halted r why o _ _ m.desk b.desk m.session f reading piece n refl running ends
-            same.beside same.text (p.to.1 o),
-      );
-    }
+takes_halt m b f reading piece n why running ends same p = record {
+  done = done_same m b f (Some why) p.done;
+  to = (
+    p.to.0,
+    λ o. held_halted why o _ _ m.desk b.desk m.session f reading piece n running ends same.beside
+        same.text (p.to.1 o),
+  );
+}
 
 -- a piece in which no line ends
 pub takes_joined : {F : Type 0} (m : Moment F) (f : Session) (piece : List ℕ)
@@ -345,16 +343,14 @@ pub rests_halt : {F : Type 0} (a b : Moment F) (has_rest : Bool) (why : Stop)
     ((bytes : List ℕ) → IsReading a.session.line bytes
     → last_line (rest_of bytes) ≡ cond has_rest (a.session.line.line ∷ []) [])
     → Makes (Answer a.session.line.line) a b (Some why) → Makes Rest a b (Some why)
-rests_halt a b has_rest why running some none last p =
-    let r : Result ⊤ Stop = Err why in
-    record {
-      done = p.done;
-      to = (
-        p.to.0,
-        λ o. last_halted r why o _ _ a.desk b.desk a.session has_rest refl running some none last
-            p.done.adds (p.to.1 o),
-      );
-    }
+rests_halt a b has_rest why running some none last p = record {
+  done = p.done;
+  to = (
+    p.to.0,
+    λ o. last_halted why o _ _ a.desk b.desk a.session has_rest running some none last p.done.adds
+        (p.to.1 o),
+  );
+}
 
 -- what is held behind a line can't be written
 pub line_unflushed : {K F T : Type 0} (ghosts : sink.Ghosts K) (a m : Moment F) (x y : K)
@@ -373,33 +369,26 @@ line_unflushed ghosts a m x y s t line fault p flush = record {
   );
 }
 
--- counts of a call that closes the script
+-- what a call that closes the script did
+counted_closed : {K F T : Type 0} (ghosts : sink.Ghosts K) (m : Moment F) (x y : K) (s t : Session)
+    (r : Result T SinkFault) → Closes ghosts s x t y r
+    → IsCounted (other ghosts x s m) (other ghosts y t m) (option_map stop_of_sink (fault_in r))
+counted_closed ghosts m x y s t (Ok i) p = (p.counts.stays.0, p.counts.stays.1, refl)
+counted_closed ghosts m x y s t (Err sink_fault.Failed) p =
+    ((p.counts.failed refl).0, (p.counts.failed refl).1, refl)
+counted_closed ghosts m x y s t (Err sink_fault.Memory) p =
+    ((p.counts.memory refl).0, (p.counts.memory refl).1, refl)
+
 done_closed : {K F T : Type 0} (ghosts : sink.Ghosts K) (m : Moment F) (x y : K) (s t : Session)
     (r : Result T SinkFault) → Closes ghosts s x t y r
     → IsDone (other ghosts x s m) (other ghosts y t m) (option_map stop_of_sink (fault_in r))
-done_closed ghosts m x y s t (Ok i) p = record {
+done_closed ghosts m x y s t r p = record {
   map_name = refl;
   store_name = refl;
   sink_name = refl;
   adds = p.adds;
   stands = λ o some. some;
-  counted = (p.counts.stays.0, p.counts.stays.1, refl);
-}
-done_closed ghosts m x y s t (Err sink_fault.Failed) p = record {
-  map_name = refl;
-  store_name = refl;
-  sink_name = refl;
-  adds = p.adds;
-  stands = λ o some. some;
-  counted = ((p.counts.failed refl).0, (p.counts.failed refl).1, refl);
-}
-done_closed ghosts m x y s t (Err sink_fault.Memory) p = record {
-  map_name = refl;
-  store_name = refl;
-  sink_name = refl;
-  adds = p.adds;
-  stands = λ o some. some;
-  counted = ((p.counts.memory refl).0, (p.counts.memory refl).1, refl);
+  counted = counted_closed ghosts m x y s t r p;
 }
 
 -- after a `quit` the script is at its end
@@ -432,27 +421,23 @@ pub ends_unclosed : {K F T : Type 0} (ghosts : sink.Ghosts K) (a m : Moment F) (
     (s t : Session) (fault : SinkFault) → Makes Rest a (other ghosts x s m) None
     → Closes {K = K} {T = T} ghosts s x t y (Err fault)
     → Makes End a (other ghosts y t m) (Some (stop_of_sink fault))
-ends_unclosed ghosts a m x y s t fault p close =
-    let r : Result ⊤ Stop = Err (stop_of_sink fault) in
-    record {
-      done = done_join a (other ghosts x s m) (other ghosts y t m) _ p.done
-          (done_closed ghosts m x y s t (Err fault) close);
-      to = (
-        halts_sink fault,
-        λ o. end_stopped r fault o _ _ _ a.desk m.desk a.session s _ _ _ p.done.counted.1 refl
-            (p.to.1 o) close.to,
-      );
-    }
+ends_unclosed ghosts a m x y s t fault p close = record {
+  done = done_join a (other ghosts x s m) (other ghosts y t m) _ p.done
+      (done_closed ghosts m x y s t (Err fault) close);
+  to = (
+    halts_sink fault,
+    λ o. end_stopped fault o _ _ _ a.desk m.desk a.session s _ _ _ p.done.counted.1 (p.to.1 o)
+        close.to,
+  );
+}
 
 -- a halt at the last line is one at the end
 pub ends_rest : {F : Type 0} (a b : Moment F) (why : Stop) → Makes Rest a b (Some why)
     → Makes End a b (Some why)
-ends_rest a b why p =
-    let r : Result ⊤ Stop = Err why in
-    record {
-      done = p.done;
-      to = (p.to.0, λ o. stopped_last r why o _ _ a.desk b.desk a.session refl (p.to.1 o));
-    }
+ends_rest a b why p = record {
+  done = p.done;
+  to = (p.to.0, λ o. stopped_last why o _ _ a.desk b.desk a.session (p.to.1 o));
+}
 
 -- ---- a call that closes the script
 

@@ -48,15 +48,6 @@ reads_next line bytes is none =
       unended = ap (λ (x : LineSoFar). x.has_ended) is;
     }
 
--- a piece of which all may be taken
-pub fits_whole : {T E H : Type 0} (r : Result T E) (o : Setup) (v u : Option (List ℕ))
-    (d e : H → Desk) (s t : Session) (piece : List ℕ) (room : ℕ) → length piece ≤ room →
-    OnOk r (Takes o (seated d v) (seated e u) s t piece)
-    → OnOk r (Takes o (seated d v) (seated e u) s t (take room piece))
-fits_whole r o v u d e s t piece room fits goes =
-    subst (λ x. OnOk r (Takes o (seated d v) (seated e u) s t x))
-    (sym (take_all room piece fits)) goes
-
 -- a piece of which the front was taken
 pub at_front : {H : Type 0} (o : Setup) (v u : Option (List ℕ)) (d e : H → Desk) (s t : Session)
     (piece front : List ℕ) (room : ℕ) → front ≡ take room piece
@@ -80,33 +71,26 @@ stopped_as o files old new d s bytes piece room stop_as.Memory halt halted = hal
 stopped_as o files old new d s bytes piece room stop_as.StoreFault halt halted = halted
 
 -- a halt in a piece of which the front may be taken
-pub stops_front : {short : Type 0} {T H : Type 0} (r : Result T Stop) (stop : Stop) (o : Setup)
-    (v u : Option (List ℕ)) (d e : H → Desk) (s t : Session) (piece front : List ℕ) (room : ℕ)
-    → IsErrAnd r (λ x. x ≡ stop) → front ≡ take room piece → IsHalt stop →
+pub stops_front : {short H : Type 0} (stop : Stop) (o : Setup) (v u : Option (List ℕ))
+    (d e : H → Desk) (s t : Session) (piece front : List ℕ) (room : ℕ) → front ≡ take room piece
+    → IsHalt stop →
     Halts o (seated d v) (seated e u) s (λ bytes. ended_lines (bytes ++ front)) short
-    (status_of stop) → IfErr r (StopsIn o (seated d v) (seated e u) s t piece room short)
-stops_front {short} (Ok x) stop o v u d e s t piece front room is cut halt halts = tt
-stops_front {short} (Err x) stop o v u d e s t piece front room is cut halt halts = λ first files w
-    bytes at.
-    subst (λ y. IsStoppedIn o files w u (e first) t bytes piece room short y) (sym is)
-    (stopped_as o files w u (e first) t bytes piece room stop halt
+    (status_of stop) → StopsIn o (seated d v) (seated e u) s t piece room short stop
+stops_front {short} stop o v u d e s t piece front room cut halt halts first files w bytes at =
+    stopped_as o files w u (e first) t bytes piece room stop halt
     (subst (λ y. IsKnown (progress o files (ended_lines (bytes ++ y)))
     → IsHaltedBehind o files bytes (ended_lines (bytes ++ y)) w u (e first) short (status_of stop))
     cut
-    (halts first files w bytes at)))
+    (halts first files w bytes at))
 
 -- a halt in a piece of which all may be taken
-pub stops_whole : {T H : Type 0} (short : Type 0) (r : Result T Stop) (o : Setup)
-    (v u : Option (List ℕ))
+pub stops_whole : {short H : Type 0} (stop : Stop) (o : Setup) (v u : Option (List ℕ))
     (d e : H → Desk) (s t : Session) (piece : List ℕ) (room : ℕ) → length piece ≤ room
-    → IfErr r IsHalt →
-    IfErr r (λ stop. Halts o (seated d v) (seated e u) s (λ bytes. ended_lines (bytes ++ piece))
-    short (status_of stop)) → IfErr r (StopsIn o (seated d v) (seated e u) s t piece room short)
-stops_whole {T} short (Ok x) o v u d e s t piece room fits halt halts = tt
-stops_whole {T} short (Err x) o v u d e s t piece room fits halt halts =
-    let failed : Result T Stop = Err x in
-    stops_front failed x o v u d e s t piece piece room refl (sym (take_all room piece fits)) halt
-    halts
+    → IsHalt stop →
+    Halts o (seated d v) (seated e u) s (λ bytes. ended_lines (bytes ++ piece)) short
+    (status_of stop) → StopsIn o (seated d v) (seated e u) s t piece room short stop
+stops_whole stop o v u d e s t piece room fits halt halts =
+    stops_front stop o v u d e s t piece piece room (sym (take_all room piece fits)) halt halts
 
 -- bytes after a `quit` have no effect
 pub at_quit : (o : Setup) (files : Option Files) (w v : Option (List ℕ)) (d : Desk) (s : Session)
@@ -147,37 +131,28 @@ end_closed o a v u c d s t e goes closes = λ first files w bytes at known.
     reached_closed o w v u (d first) t e p reached (closes w p reached.between.step reached.written)
 
 -- a halt there
-pub end_stopped : {T H : Type 0} (r : Result T Stop) (fault : SinkFault) (o : Setup)
-    (a v u : Option (List ℕ)) (c d : H → Desk) (s t : Session) (x y z : ℕ) → y ≡ x
-    → IsErrAnd r (λ x. x ≡ stop_of_sink fault)
+pub end_stopped : {H : Type 0} (fault : SinkFault) (o : Setup) (a v u : Option (List ℕ))
+    (c d : H → Desk) (s t : Session) (x y z : ℕ) → y ≡ x
     → Reaches o (seated c a) (seated d v) s t (λ p. p) →
     ((w : Option (List ℕ)) (p : Progress) → IsInStep t p → v ≡ appended w p.text
     → IsCutBy p (closed p) w u (Rose y z) fault) →
-    IfErr r (λ stop. HaltsAtEnd o (seated c a) (seated d u) s (Rose x z) (status_of stop))
-end_stopped (Ok f) fault o a v u c d s t x y z same is goes cuts = tt
-end_stopped (Err f) fault o a v u c d s t x y z same is goes cuts = λ first files w bytes at known.
+    HaltsAtEnd o (seated c a) (seated d u) s (Rose x z) (status_of (stop_of_sink fault))
+end_stopped fault o a v u c d s t x y z same goes cuts first files w bytes at known =
     let p : Progress = progress o files (all_lines bytes) in
     let reached = goes first files w bytes at known in
     let end = cuts w p reached.between.step reached.written in
     let halted : IsHaltedBetween o None p (closed p) w u (d first) (Rose y z)
     (status_of (stop_of_sink fault)) = halted_closed o w v u (d first) t p fault reached end in (
-      inr (subst (λ f. IsHaltedBetween o None p (closed p) w u (d first) (Rose x z)
-          (status_of f)) (sym is)
-          (subst (λ n. IsHaltedBetween o None p (closed p) w u (d first) (Rose n z)
-          (status_of (stop_of_sink fault))) same halted)),
+      inr (subst (λ n. IsHaltedBetween o None p (closed p) w u (d first) (Rose n z)
+          (status_of (stop_of_sink fault))) same halted),
       replied_between o files bytes p (closed p) w u
           (progress_grows o files (ended_lines bytes) (last_line (rest_of bytes))) end.cut,
     )
 
 -- a halt at the last line is one of the stops at the end
-pub stopped_last : {short : Type 0} {T H : Type 0} (r : Result T Stop) (stop : Stop) (o : Setup)
-    (v u : Option (List ℕ)) (d e : H → Desk) (s : Session) → IsErrAnd r (λ x. x ≡ stop) →
-    Halts o (seated d v) (seated e u) s all_lines short (status_of stop) →
-    IfErr r (λ stop. HaltsAtEnd o (seated d v) (seated e u) s short (status_of stop))
-stopped_last {short} (Ok x) stop o v u d e s is halts = tt
-stopped_last {short} (Err x) stop o v u d e s is halts = λ first files w bytes at known.
-    let h = halts first files w bytes at known in (
-      inl (subst (λ y. IsHalted o files (all_lines bytes) w u (e first) short (status_of y))
-          (sym is) h.0),
-      h.1,
-    )
+pub stopped_last : {short H : Type 0} (stop : Stop) (o : Setup) (v u : Option (List ℕ))
+    (d e : H → Desk) (s : Session)
+    → Halts o (seated d v) (seated e u) s all_lines short (status_of stop)
+    → HaltsAtEnd o (seated d v) (seated e u) s short (status_of stop)
+stopped_last stop o v u d e s halts first files w bytes at known =
+    let h = halts first files w bytes at known in (inl h.0, h.1)

@@ -22,33 +22,23 @@ use Rattle.oct_session.proofs.Endings.{serving_more, ends_read_fault, serving_qu
 use Rattle.oct_session.proofs.Endings.{through_end, ends_last, ends_through}
 
 -- a call that gives up where the input failed
-pub stopped_by_source : {T H : Type 0} (short : Type 0) (r : Result T Stop) (o : Setup)
-    (left after v : Option (List ℕ))
-    (d : H → Desk) (s : Session) (taken : ℕ) → IsErrAnd r (λ stop. stop ≡ ReadFault) → after ≡ left
-    → taken ≤ o.max_bytes → s.has_quit ≡ false →
-    IfErr r (λ stop. Ends o left after (seated d v) (seated d v) s taken short (status_of stop))
-stopped_by_source short (Ok x) o left after v d s taken is same few running = tt
-stopped_by_source short (Err stop) o left after v d s taken is same few running =
-    λ first files bytes w at known.
-    subst (λ x. HasEndedAs o files bytes after w v (d first) short (status_of x)) (sym is)
-    (ends_read_fault o files bytes left after w v (d first) s taken same few running at known)
+pub stopped_by_source : {H : Type 0} (short : Type 0) (o : Setup) (left after v : Option (List ℕ))
+    (d : H → Desk) (s : Session) (taken : ℕ) → after ≡ left → taken ≤ o.max_bytes
+    → s.has_quit ≡ false
+    → Ends o left after (seated d v) (seated d v) s taken short (status_of ReadFault)
+stopped_by_source short o left after v d s taken same few running first files bytes w at known =
+    ends_read_fault o files bytes left after w v (d first) s taken same few running at known
 
 -- a call that gives up within what a read gave
-pub stopped_in_piece : {T H : Type 0} (short : Type 0) (r : Result T Stop) (stop : Stop) (o : Setup)
-    (buffer piece : List ℕ)
-    (left after v u : Option (List ℕ)) (d e : H → Desk) (s t : Session) (taken n room : ℕ)
-    → IsErrAnd r (λ x. x ≡ stop) →
-    IsRead o buffer piece left after taken n room →
-    StopsIn o (seated d v) (seated e u) s t piece room short stop →
-    IfErr r (λ x. Ends o left after (seated d v) (seated e u) s taken short (status_of x))
-stopped_in_piece short (Ok x) stop o buffer piece left after v u d e s t taken n room is read
-    stops = tt
-stopped_in_piece short (Err x) stop o buffer piece left after v u d e s t taken n room is read
-    stops =
-    λ first files bytes w at known.
-    subst (λ y. HasEndedAs o files bytes after w u (e first) short (status_of y)) (sym is)
-    (ends_stop o files bytes buffer piece left after w v u d e first s t taken n room stop read
-    stops at known)
+pub stopped_in_piece : {H : Type 0} (short : Type 0) (stop : Stop) (o : Setup)
+    (buffer piece : List ℕ) (left after v u : Option (List ℕ)) (d e : H → Desk) (s t : Session)
+    (taken n room : ℕ) → IsRead o buffer piece left after taken n room
+    → StopsIn o (seated d v) (seated e u) s t piece room short stop
+    → Ends o left after (seated d v) (seated e u) s taken short (status_of stop)
+stopped_in_piece short stop o buffer piece left after v u d e s t taken n room read stops first files
+    bytes w at known =
+    ends_stop o files bytes buffer piece left after w v u d e first s t taken n room stop read
+    stops at known
 
 -- a call that goes on after a read
 pub goes_on : {H : Type 0} (o : Setup) (buffer piece : List ℕ) (left after v u : Option (List ℕ))
@@ -73,42 +63,35 @@ quits_in o buffer piece left after v u d e s t taken n room read running goes qu
     running quit goes at known
 
 -- a read that gives up, after reads that didn't
-pub stopped_in_turn : {T H : Type 0} (r : Result T Stop) (stop : Stop) (o : Setup)
-    (left after end a v u : Option (List ℕ)) (c d e : H → Desk) (s t : Session) (taken x y z : ℕ)
-    → y ≡ x → IsErrAnd r (λ x. x ≡ stop) →
-    Serves o left after (seated c a) (seated d v) s t 0 taken
+pub stopped_in_turn : {H : Type 0} (stop : Stop) (o : Setup) (left after end a v u : Option (List ℕ))
+    (c d e : H → Desk) (s t : Session) (taken x y z : ℕ) → y ≡ x
+    → Serves o left after (seated c a) (seated d v) s t 0 taken
     → Ends o after end (seated d v) (seated e u) t taken (Rose y z) (status_of stop)
-    → IfErr r (λ f. Ends o left end (seated c a) (seated e u) s 0 (Rose x z) (status_of f))
-stopped_in_turn (Ok f) stop o left after end a v u c d e s t taken x y z same is goes stops = tt
-stopped_in_turn (Err f) stop o left after end a v u c d e s t taken x y z same is goes stops =
-    λ first files bytes w at known.
-    subst (λ g. HasEndedAs o files bytes end w u (e first) (Rose x z) (status_of g)) (sym is)
-    (subst (λ n. HasEndedAs o files bytes end w u (e first) (Rose n z) (status_of stop)) same
-    (stops first files bytes w (goes first files bytes w at) known))
+    → Ends o left end (seated c a) (seated e u) s 0 (Rose x z) (status_of stop)
+stopped_in_turn stop o left after end a v u c d e s t taken x y z same goes stops first files bytes w
+    at known =
+    subst (λ n. HasEndedAs o files bytes end w u (e first) (Rose n z) (status_of stop)) same
+    (stops first files bytes w (goes first files bytes w at) known)
 
 -- the answer to the last line, at the end of the input
-pub finished_at_end : {E H : Type 0} (r : Result (Unit {0}) E) (o : Setup)
-    (left after a v u : Option (List ℕ)) (c d e : H → Desk) (s t f : Session) (taken : ℕ)
-    → taken ≤ o.max_bytes → IfSome after (λ l. l ≡ []) →
-    Serves o left after (seated c a) (seated d v) s t 0 taken →
-    OnOk r (Reaches o (seated d v) (seated e u) t f closed) →
-    OnOk r (Finishes o left after (seated c a) (seated e u) s f 0)
-finished_at_end (Ok x) o left after a v u c d e s t f taken few none goes answers =
-    λ first files bytes w at known.
+pub finished_at_end : {H : Type 0} (o : Setup) (left after a v u : Option (List ℕ))
+    (c d e : H → Desk) (s t f : Session) (taken : ℕ) → taken ≤ o.max_bytes
+    → IfSome after (λ l. l ≡ []) → Serves o left after (seated c a) (seated d v) s t 0 taken
+    → Reaches o (seated d v) (seated e u) t f closed
+    → Finishes o left after (seated c a) (seated e u) s f 0
+finished_at_end o left after a v u c d e s t f taken few none goes answers first files bytes w at
+    known =
     through_end o files bytes after w v u d e first t f taken few none answers
     (goes first files bytes w at) known
-finished_at_end (Err x) o left after a v u c d e s t f taken few none goes answers = tt
 
 -- a stop in that answer
-pub stopped_at_end : {H : Type 0} (r : Result (Unit {0}) Stop) (o : Setup)
-    (left after a v u : Option (List ℕ)) (c d e : H → Desk) (s t : Session) (taken x y z : ℕ)
-    → y ≡ x → taken ≤ o.max_bytes → IfSome after (λ l. l ≡ []) →
-    Serves o left after (seated c a) (seated d v) s t 0 taken → IfErr r IsHalt →
-    IfErr r (λ stop. HaltsAtEnd o (seated d v) (seated e u) t (Rose y z) (status_of stop)) →
-    IfErr r (λ stop. Ends o left after (seated c a) (seated e u) s 0 (Rose x z) (status_of stop))
-stopped_at_end (Ok f) o left after a v u c d e s t taken x y z same few none goes only halts = tt
-stopped_at_end (Err stop) o left after a v u c d e s t taken x y z same few none goes only halts =
-    λ first files bytes w at known.
+pub stopped_at_end : {H : Type 0} (stop : Stop) (o : Setup) (left after a v u : Option (List ℕ))
+    (c d e : H → Desk) (s t : Session) (taken x y z : ℕ) → y ≡ x → taken ≤ o.max_bytes
+    → IfSome after (λ l. l ≡ []) → Serves o left after (seated c a) (seated d v) s t 0 taken
+    → IsHalt stop → HaltsAtEnd o (seated d v) (seated e u) t (Rose y z) (status_of stop)
+    → Ends o left after (seated c a) (seated e u) s 0 (Rose x z) (status_of stop)
+stopped_at_end stop o left after a v u c d e s t taken x y z same few none goes only halts first
+    files bytes w at known =
     subst (λ n. HasEndedAs o files bytes after w u (e first) (Rose n z) (status_of stop)) same
     (ends_last o files bytes after w v u d e first t taken stop few none only halts
     (goes first files bytes w at) known)

@@ -4,7 +4,7 @@ use Rattle.std.proofs.Common.{None}
 use Rattle.std.proofs.Common.{refl, sym, ap, subst, ◌∙◌, arith, Result, Ok, Err, OnOk, IfSome}
 use Rattle.std.proofs.Common.{IsErrAnd, length, take, drop, true, false, true≢false}
 use Rattle.std.specs.Prelude.{⊤}
-use Rattle.std.proofs.lemmas.List.{length-take}
+use Rattle.std.proofs.lemmas.List.{length-take, take_all}
 use Rattle.oct_io.specs.FaultCounts.{IsStopCounted}
 use Rattle.oct_io.specs.Stops.{IsHalt, status_of}
 use Rattle.oct_io.specs.Told.{Rose}
@@ -20,7 +20,7 @@ use Rattle.oct_session.proofs.Endings.{IsRead}
 use Rattle.oct_session.proofs.HeldPieces.{held_first, replied_since}
 use Rattle.oct_session.proofs.Moves.{done_join, done_none}
 use Rattle.oct_session.proofs.PieceMoves.{at_of_held}
-use Rattle.oct_session.proofs.Pieces.{fits_whole, at_front, stops_front, stops_whole}
+use Rattle.oct_session.proofs.Pieces.{at_front, stops_front, stops_whole}
 use Rattle.oct_session.proofs.Progresses.{known_bytes}
 use Rattle.oct_session.proofs.Serving.{stopped_by_source, stopped_in_piece, goes_on, quits_in}
 use Rattle.oct_session.proofs.Serving.{stopped_in_turn, finished_at_end, stopped_at_end}
@@ -83,27 +83,23 @@ pub piece_whole : {F T : Type 0} (r : Result T Stop) (piece : List ℕ) (room : 
     → a.session.line_count + length piece < 2 ^ 63 → length piece ≤ room
     → IsResting a.session a.session.line_count → OnOk r (b.session.text.items ≡ [])
     → Makes (Take piece) a b (stop_in r) → TakesPiece piece room a b (stop_in r)
-piece_whole (Ok x) piece room a b small fits rests empty p =
-    let r : Result ⊤ Stop = Ok tt in
-    record {
-      done = p.done;
-      to = (
-        rests_behind a b piece (length piece) small (omega arith) rests empty p,
-        λ running. fits,
-        λ o. fits_whole r o _ _ a.desk b.desk a.session b.session piece room fits
-            (taken_all o a b piece rests.empty empty p),
-      );
-    }
-piece_whole (Err why) piece room a b small fits rests empty p =
-    let r : Result ⊤ Stop = Err why in
-    record {
-      done = p.done;
-      to = (
-        halt_read why p.to.0,
-        λ o. stops_whole _ r o _ _ a.desk b.desk a.session b.session piece room fits p.to.0
-            (halted_all o a b piece why rests.empty p),
-      );
-    }
+piece_whole (Ok x) piece room a b small fits rests empty p = record {
+  done = p.done;
+  to = (
+    rests_behind a b piece (length piece) small (omega arith) rests empty p,
+    λ running. fits,
+    λ o. at_front o _ _ a.desk b.desk a.session b.session piece piece room
+        (sym (take_all room piece fits)) (taken_all o a b piece rests.empty empty p),
+  );
+}
+piece_whole (Err why) piece room a b small fits rests empty p = record {
+  done = p.done;
+  to = (
+    halt_read why p.to.0,
+    λ o. stops_whole why o _ _ a.desk b.desk a.session b.session piece room fits p.to.0
+        (halted_all o a b piece why rests.empty p),
+  );
+}
 
 -- a piece of which the front may be taken, with a `quit` in it
 pub piece_front : {F : Type 0} (piece front : List ℕ) (room : ℕ) (a b : Moment F)
@@ -150,16 +146,14 @@ piece_long piece front room a b long is none empty running p = record {
 pub piece_stop : {F : Type 0} (piece front : List ℕ) (room : ℕ) (why : Stop) (a b : Moment F)
     → front ≡ take room piece → a.session.text.items ≡ [] → Makes (Take front) a b (Some why)
     → TakesPiece piece room a b (Some why)
-piece_stop piece front room why a b is none p =
-    let r : Result ⊤ Stop = Err why in
-    record {
-      done = p.done;
-      to = (
-        halt_read why p.to.0,
-        λ o. stops_front r why o _ _ a.desk b.desk a.session b.session piece front room refl is
-            p.to.0 (halted_all o a b front why none p),
-      );
-    }
+piece_stop piece front room why a b is none p = record {
+  done = p.done;
+  to = (
+    halt_read why p.to.0,
+    λ o. stops_front why o _ _ a.desk b.desk a.session b.session piece front room is p.to.0
+        (halted_all o a b front why none p),
+  );
+}
 
 -- ---- a read
 
@@ -196,20 +190,17 @@ pub record Turns {F : Type 0} (o : Setup) (left after : Option (List ℕ)) (take
 pub turn_unread : {F : Type 0} (o : Setup) (left after : Option (List ℕ)) (taken : ℕ) (a : Moment F)
     → after ≡ left → IsWaiting o a.session taken
     → Turns o left after taken a a (Err stop.ReadFault)
-turn_unread o left after taken a same waits =
-    let r : Result ⊤ Stop = Err stop.ReadFault in
-    record {
-      done = record {
-        map_name = refl;
-        store_name = refl;
-        sink_name = refl;
-        adds = (done_none a).adds;
-        stands = λ o some. some;
-        counted = (refl, refl, refl);
-      };
-      to = stopped_by_source _ r o left after _ a.desk a.session taken refl same waits.few
-          waits.running;
-    }
+turn_unread o left after taken a same waits = record {
+  done = record {
+    map_name = refl;
+    store_name = refl;
+    sink_name = refl;
+    adds = (done_none a).adds;
+    stands = λ o some. some;
+    counted = (refl, refl, refl);
+  };
+  to = stopped_by_source _ o left after _ a.desk a.session taken same waits.few waits.running;
+}
 
 -- what was read is answered
 pub turn_taken : {F : Type 0} (o : Setup) (left after : Option (List ℕ)) (buffer piece : List ℕ)
@@ -236,13 +227,11 @@ pub turn_stopped : {F : Type 0} (o : Setup) (left after : Option (List ℕ)) (bu
     (taken n room : ℕ) (why : Stop) (a b : Moment F)
     → IsRead o buffer piece left after taken n room → TakesPiece piece room a b (Some why)
     → Turns o left after taken a b (Err why)
-turn_stopped o left after buffer piece taken n room why a b read p =
-    let r : Result ⊤ Stop = Err why in
-    record {
-      done = p.done;
-      to = stopped_in_piece _ r why o buffer piece left after _ _ a.desk b.desk a.session b.session
-          taken n room refl read (p.to.1 o);
-    }
+turn_stopped o left after buffer piece taken n room why a b read p = record {
+  done = p.done;
+  to = stopped_in_piece _ why o buffer piece left after _ _ a.desk b.desk a.session b.session taken
+      n room read (p.to.1 o);
+}
 
 -- all that were read are within the limit, where so many may be taken
 pub turn_fits : (o : Setup) (left after : Option (List ℕ)) (buffer piece : List ℕ)
@@ -274,13 +263,11 @@ pub reads_stopped : {F : Type 0} (o : Setup) (left mid after : Option (List ℕ)
     (why : Stop) (a b c : Moment F) → IsDone a b None
     → Serves o left mid (seat_at a) (seat_at b) a.session b.session 0 taken
     → Turns o mid after taken b c (Err why) → Reads o left after a c (Some why)
-reads_stopped o left mid after taken why a b c done goes p =
-    let r : Result ⊤ Stop = Err why in
-    record {
-      done = done_join a b c (Some why) done p.done;
-      to = stopped_in_turn r why o left mid after _ _ _ a.desk b.desk c.desk a.session b.session
-          taken _ _ _ done.counted.1 refl goes p.to;
-    }
+reads_stopped o left mid after taken why a b c done goes p = record {
+  done = done_join a b c (Some why) done p.done;
+  to = stopped_in_turn why o left mid after _ _ _ a.desk b.desk c.desk a.session b.session taken
+      _ _ _ done.counted.1 goes p.to;
+}
 
 -- a read with a `quit` in it
 pub reads_quit : {F : Type 0} (o : Setup) (left mid after : Option (List ℕ)) (taken n : ℕ)
@@ -307,73 +294,38 @@ pub reads_end : {F : Type 0} (r : Result (Unit {0}) Stop) (o : Setup)
     → IfSome after (λ l. l ≡ []) → IsDone a b None
     → Serves o left after (seat_at a) (seat_at b) a.session b.session 0 taken
     → Makes End b c (stop_in r) → Reads o left after a c (stop_in r)
-reads_end (Ok x) o left after taken a b c few none done goes p =
-    let r : Result (Unit {0}) Stop = Ok x in
-    record {
-      done = done_join a b c None done p.done;
-      to = finished_at_end r o left after _ _ _ a.desk b.desk c.desk a.session b.session c.session
-          taken few none goes (p.to.1 o);
-    }
-reads_end (Err why) o left after taken a b c few none done goes p =
-    let r : Result (Unit {0}) Stop = Err why in
-    record {
-      done = done_join a b c (Some why) done p.done;
-      to = stopped_at_end r o left after _ _ _ a.desk b.desk c.desk a.session b.session taken _ _ _
-          done.counted.1 few none goes p.to.0 (p.to.1 o);
-    }
+reads_end (Ok x) o left after taken a b c few none done goes p = record {
+  done = done_join a b c None done p.done;
+  to = finished_at_end o left after _ _ _ a.desk b.desk c.desk a.session b.session c.session taken
+      few none goes (p.to.1 o);
+}
+reads_end (Err why) o left after taken a b c few none done goes p = record {
+  done = done_join a b c (Some why) done p.done;
+  to = stopped_at_end why o left after _ _ _ a.desk b.desk c.desk a.session b.session taken _ _ _
+      done.counted.1 few none goes p.to.0 (p.to.1 o);
+}
 
 -- counts of faults beside a result
+none_counted : {F T : Type 0} (r : Result T Stop) (a b : Moment F) → IsCounted a b (stop_in r)
+    → OnOk r ((b.sink_faults ≡ a.sink_faults) × (b.shortages ≡ a.shortages)
+    × (b.store_faults ≡ a.store_faults))
+none_counted (Ok x) a b p = p
+none_counted (Err why) a b p = tt
+
 stop_counted : {F T : Type 0} (r : Result T Stop) (a b : Moment F) → IsCounted a b (stop_in r)
     → IsStopCounted r a.sink_faults b.sink_faults a.shortages b.shortages a.store_faults
     b.store_faults
-stop_counted (Ok x) a b p = record {
-  stays = p;
-  failed = λ e. cc;
-  memory = λ e. cc;
-  store_failed = λ e. cc;
-  too_long = λ e. cc;
-  unread = λ e. cc;
-}
-stop_counted (Err stop.TooLong) a b p = record {
-  stays = tt;
-  failed = λ e. cc;
-  memory = λ e. cc;
-  store_failed = λ e. cc;
-  too_long = λ e. p;
-  unread = λ e. cc;
-}
-stop_counted (Err stop.ReadFault) a b p = record {
-  stays = tt;
-  failed = λ e. cc;
-  memory = λ e. cc;
-  store_failed = λ e. cc;
-  too_long = λ e. cc;
-  unread = λ e. p;
-}
-stop_counted (Err stop.WriteFault) a b p = record {
-  stays = tt;
-  failed = λ e. p;
-  memory = λ e. cc;
-  store_failed = λ e. cc;
-  too_long = λ e. cc;
-  unread = λ e. cc;
-}
-stop_counted (Err stop.Memory) a b p = record {
-  stays = tt;
-  failed = λ e. cc;
-  memory = λ e. p;
-  store_failed = λ e. cc;
-  too_long = λ e. cc;
-  unread = λ e. cc;
-}
-stop_counted (Err stop.StoreFault) a b p = record {
-  stays = tt;
-  failed = λ e. cc;
-  memory = λ e. cc;
-  store_failed = λ e. p;
-  too_long = λ e. cc;
-  unread = λ e. cc;
-}
+stop_counted r a b p =
+    let when : (why : Stop) → r ≡ Err why → IsCounted a b (Some why) =
+    λ why is. subst (λ x. IsCounted a b (stop_in x)) is p in
+    record {
+      stays = none_counted r a b p;
+      failed = λ is. when stop.WriteFault is;
+      memory = λ is. when stop.Memory is;
+      store_failed = λ is. when stop.StoreFault is;
+      too_long = λ is. when stop.TooLong is;
+      unread = λ is. when stop.ReadFault is;
+    }
 
 pub reads_counted : {F T : Type 0} (r : Result T Stop) (o : Setup) (left after : Option (List ℕ))
     (a b : Moment F) → Reads o left after a b (stop_in r)

@@ -123,10 +123,9 @@ impl PendingScan {
     pub fn into_scan(self) -> Result<Scan, ZeroQuaternion>
         ensures zero { is_err result ≡ is_zero self.head }
         ensures sighting { IfOk result (λ scan. sighting_of scan ≡ sighting_so_far self) }
-        ensures points { IfOk result (λ scan. All IsInReach scan.points) }
-        ensures range { IfOk result
-            (λ scan. IfSome scan.range (λ r. (pos 0 ≤ℤ r) × (r <ℤ pos (10 ^ 16)))) }
-        ensures odds { IfOk result (λ scan. IfSome scan.odds IsTrust) }
+        ensures small { IfOk result (λ scan. All IsInReach scan.points
+            × IfSome scan.range (λ r. (pos 0 ≤ℤ r) × (r <ℤ pos (10 ^ 16)))
+            × IfSome scan.odds IsTrust) }
     {
         let head = self.head;
         let pose = Pose::new(head.t, head.w, head.x, head.y, head.z)?;
