@@ -610,51 +610,41 @@ failed_beside o e p line store_fault.Failed running torn =
 failed_beside o e p line store_fault.Memory running less = inr less
 
 -- where the command failed, nothing of the line is done, but for the file that it saves
-pub command_fails_line : {T H : Type 0} (x : Result T StoreFault) (fault : StoreFault) (o : Setup)
-    (d e : H → Desk) (s : Session) (line : Line) (c : Result Command Refusal)
-    (block : Option ScanBlock) → IsErrAnd x (λ y. y ≡ fault) →
+pub command_fails_line : {H : Type 0} (fault : StoreFault) (o : Setup) (d e : H → Desk)
+    (s : Session) (line : Line) (c : Result Command Refusal) (block : Option ScanBlock) →
     ((first : H) → IsWorked s line c (d first).map (e first).map (d first).store.files
     (e first).store.files
     block (Err fault)) → ((first : H) → Asks (d first) (e first) (asks_for (file_named c))) →
-    IfErr x (FailsLine o d e s line)
-command_fails_line (Ok x) fault o d e s line c block same works asks = absurd same
-command_fails_line (Err x) fault o d e s line c block same works asks = λ first p known at.
+    FailsLine o d e s line fault
+command_fails_line fault o d e s line c block works asks first p known at =
     let w = works first in
     let done = w.took p.files (state_after o p.history)
     (finds_line o s line p c w.running at.step w.read known) at.like in
     let failed : HasFailed (asked_of (next_command p line)) p.files (state_after o p.history)
-    (e first).map (e first).store.files x =
+    (e first).map (e first).store.files fault =
     subst (λ y. HasFailed (asked_of y) p.files (state_after o p.history) (e first).map
-    (e first).store.files x)
-    (same_command s line p c at.step w.read)
-    (subst (λ y. HasFailed (asked_of c) p.files (state_after o p.history) (e first).map
-    (e first).store.files y)
-    (sym same) done.1) in
+    (e first).store.files fault) (same_command s line p c at.step w.read) done.1 in
     record {
       takes = subst (λ b. TakesMemory b (effect_of o p line)) at.step.block
           (subst (λ (y : Effect). TakesMemory s.block y) (same_effect o s line p c at.step w.read)
           done.0);
-      beside = failed_beside o (e first) p line x (sym at.step.has_quit ∙ w.running) failed;
+      beside = failed_beside o (e first) p line fault (sym at.step.has_quit ∙ w.running) failed;
       asked = asked_line o (d first) (e first) s line p c w.running w.read (asks first) at;
     }
 
 -- where memory runs out for the reply, all of it is done
-pub reply_fails_line : {T H : Type 0} (x : Result T StoreFault) (o : Setup) (d e : H → Desk)
-    (s : Session) (line : Line)
-    (c : Result Command Refusal) (block : Option ScanBlock) (a : Option Reply)
-    → IsErrAnd x (λ y. y ≡ store_fault.Memory) →
+pub reply_fails_line : {H : Type 0} (o : Setup) (d e : H → Desk) (s : Session) (line : Line)
+    (c : Result Command Refusal) (block : Option ScanBlock) (a : Option Reply) →
     ((first : H) → IsWorked s line c (d first).map (e first).map (d first).store.files
     (e first).store.files
     block (Ok a)) → ((first : H) → Asks (d first) (e first) (asks_for (file_named c))) → IsSome a →
-    IfErr x (FailsLine o d e s line)
-reply_fails_line (Ok x) o d e s line c block a memory works asks some = absurd memory
-reply_fails_line (Err x) o d e s line c block a memory works asks some = λ first p known at.
+    FailsLine o d e s line store_fault.Memory
+reply_fails_line o d e s line c block a works asks some first p known at =
     let w = works first in
     record {
       takes = inl (subst (λ (r : Option Reply). IsSome r)
           (told_line o (d first) (e first).map
           (e first).store.files s line p c block a w known at) some);
-      beside = subst (λ y. StandsBeside o (e first) p line y) (sym memory)
-          (inl (like_line o (d first) (e first) s line p c block a w known at));
+      beside = inl (like_line o (d first) (e first) s line p c block a w known at);
       asked = asked_line o (d first) (e first) s line p c w.running w.read (asks first) at;
     }

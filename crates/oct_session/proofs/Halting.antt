@@ -212,33 +212,28 @@ text_end s p r running at is =
     ∙ ap (λ x. p.text ++ text_of x) (sym (is ∙ ap end_reply at.block))
 
 -- a call that gives up before anything of the end's reply is written
-pub closing_untold : {T : Type 0} (short : Type 0) (result : Result T SinkFault)
-    (v : Option (List ℕ))
-    (s : Session) (r : Option Reply) → s.has_quit ≡ false → r ≡ end_reply s.block → IsSome r →
-    IfErr result (λ fault. (w : Option (List ℕ)) (p : Progress) → IsInStep s p
-    → v ≡ appended w p.text → IsCutBy p (closed p) w v short fault)
+pub closing_untold : (short : Type 0) (fault : SinkFault) (v : Option (List ℕ)) (s : Session)
+    (r : Option Reply) → s.has_quit ≡ false → r ≡ end_reply s.block → IsSome r
+    → (w : Option (List ℕ)) (p : Progress) → IsInStep s p → v ≡ appended w p.text
+    → IsCutBy p (closed p) w v short fault
 unfolding cut_untold
-closing_untold short (Ok x) v s r running is some = tt
-closing_untold short (Err x) v s r running is some = λ w p at before. record {
+closing_untold short fault v s r running is some w p at before = record {
   cut = cut_untold w v s p (closed p) (text_of r) running at before (text_end s p r running at is)
       (inl (text_some r some));
   by = inl refl;
 }
 
 -- a call that gives up when a part of it is written
-pub closing_cut : {T short : Type 0} (result : Result T SinkFault) (fault : SinkFault)
-    (v u : Option (List ℕ)) (s : Session) (r : Option Reply) (text : List ℕ) (k : ℕ)
-    → IsErrAnd result (λ x. x ≡ fault) → IsShort fault short → s.has_quit ≡ false
-    → r ≡ end_reply s.block → text ≡ text_of r → k < length text → u ≡ appended v (take k text) →
-    IfErr result (λ fault. (w : Option (List ℕ)) (p : Progress) → IsInStep s p
-    → v ≡ appended w p.text → IsCutBy p (closed p) w u short fault)
-closing_cut (Ok x) fault v u s r text k same ran running is told less written = tt
-closing_cut (Err x) fault v u s r text k same ran running is told less written = λ w p at before.
-    record {
-      cut = cut_part w v u s p (closed p) text k running at before
-          (text_end s p r running at is ∙ ap (λ y. p.text ++ y) (sym told)) less written;
-      by = inr (λ memory. ran (sym same ∙ memory));
-    }
+pub closing_cut : {short : Type 0} (fault : SinkFault) (v u : Option (List ℕ)) (s : Session)
+    (r : Option Reply) (text : List ℕ) (k : ℕ) → IsShort fault short → s.has_quit ≡ false
+    → r ≡ end_reply s.block → text ≡ text_of r → k < length text → u ≡ appended v (take k text)
+    → (w : Option (List ℕ)) (p : Progress) → IsInStep s p → v ≡ appended w p.text
+    → IsCutBy p (closed p) w u short fault
+closing_cut fault v u s r text k ran running is told less written w p at before = record {
+  cut = cut_part w v u s p (closed p) text k running at before
+      (text_end s p r running at is ∙ ap (λ y. p.text ++ y) (sym told)) less written;
+  by = inr ran;
+}
 
 -- a halt at the end of the script, with the desk that stands by
 pub halted_closed : {short : Type 0} (o : Setup) (w v u : Option (List ℕ)) (d : Desk) (s : Session)

@@ -13,9 +13,8 @@ use Rattle.oct_session.proofs.session.Session.close.Goals as goal
 
 pub returns-in_err-tell : goal.returns-in_err-tell
 returns-in_err-tell g c =
-    let r : Result ⊤ SinkFault = Err Memory in
     closes_on g.K.Sink c.from_residual.result _ _ _ _ _ c.from_residual.ensures.1 (record {
-      to = closing_untold _ r _ c.args.self.now c.end_reply-reply.result c.requires.running
+      to = closing_untold _ Memory _ c.args.self.now c.end_reply-reply.result c.requires.running
           (c.end_reply-reply.ensures ∙ ap end_reply c.take.ensures.value) c.in_err-tell.ensures.err;
       adds = ([], appended_nil _);
       counts = counts_unwritten _ _;
@@ -24,11 +23,10 @@ returns-in_err-tell g c =
 pub returns-in_err-flush : goal.returns-in_err-flush
 returns-in_err-flush g c =
     let fault : SinkFault = c.in_err-flush.field-0.0 in
-    let r : Result ⊤ SinkFault = Err fault in
     closes_on g.K.Sink c.from_residual-in_err-flush.result _ _ _ _ _
     c.from_residual-in_err-flush.ensures.1 (record {
-      to = closing_cut r fault _ _ c.args.self.now c.end_reply-reply.result c.tell.new.text.items _
-          refl (ran_short g.K.Sink _ _ _ _ fault c.in_err-flush.ensures.passes) c.requires.running
+      to = closing_cut fault _ _ c.args.self.now c.end_reply-reply.result c.tell.new.text.items _
+          (ran_short g.K.Sink _ _ _ _ fault c.in_err-flush.ensures.passes) c.requires.running
           (c.end_reply-reply.ensures ∙ ap end_reply c.take.ensures.value)
           (c.in_ok-tell.ensures.ok ∙ ap (λ x. x ++ text_of c.end_reply-reply.result)
           c.requires.empty)
