@@ -29,7 +29,7 @@ use Rattle.oct_scan.proofs.Gathering.{IsBeamAdded, ends_with, once_last, gathere
 use Rattle.oct_scan.proofs.Gathering.{gathered_next, few_more, met_next}
 
 -- an empty mask has no code
-none_of : (mask b c : ℕ) → mask ≡ 0 → HasCode b mask c → ⊥
+pub none_of : (mask b c : ℕ) → mask ≡ 0 → HasCode b mask c → ⊥
 none_of mask b c e h = none_set b c (subst (λ m. HasCode b m c) e h)
 
 -- one brick more, in which nothing is hit

@@ -22,7 +22,7 @@ without_first : {X : Type 0} (p : X → Bool) (x : X) (xs : List X) → p x ≡ 
 without_first p x xs h = ap (λ test. cond test (x ∷ filter p xs) (filter p xs)) h
 
 -- what passes of a list is in it
-passed_from : {X : Type 0} (p : X → Bool) (xs : List X) (x : X) → Contains (filter p xs) x
+pub passed_from : {X : Type 0} (p : X → Bool) (xs : List X) (x : X) → Contains (filter p xs) x
     → Contains xs x × (p x ≡ true)
 passed_from p xs x h = (
   All-contains (λ y. Contains xs y) (filter p xs) x
@@ -30,7 +30,7 @@ passed_from p xs x h = (
   All-contains (λ y. p y ≡ true) (filter p xs) x (filter_passes p xs) h,
 )
 
-passed_listed : {X : Type 0} (p : X → Bool) (xs : List X) (x : X) → Contains xs x → p x ≡ true
+pub passed_listed : {X : Type 0} (p : X → Bool) (xs : List X) (x : X) → Contains xs x → p x ≡ true
     → Contains (filter p xs) x
 passed_listed p [] x h t = absurd (contains_none x h)
 passed_listed p (y ∷ ys) x h t = elim (contains_cases y x ys h) [

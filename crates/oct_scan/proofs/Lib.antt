@@ -28,3 +28,4 @@ pub mod LaterSpans
 pub mod CodeBoxes
 pub mod Comings
 pub mod Entries
+pub mod Tabled

@@ -18,7 +18,7 @@ use crate::beam::PlacedBeam;
 use crate::code_box::CodeBox;
 use crate::entry::{is_passed_by, walk_to_box};
 use crate::order::{LEAST_KEYED, MOST_KEYED, sorted_keys};
-use crate::pile::BrickPile;
+use crate::table::BrickTable;
 use oct_brick::Brick;
 use oct_key::{Key, Point, Res, Window, from_morton, morton};
 use oct_num::Memory;
@@ -43,21 +43,28 @@ pub fn gather(
     ensures few { IfOk result (λ bricks. (n : ℕ) × AreFew n bricks.items) }
     ensures memory { OnErr result (0 < length beams.now) }
 {
-    let mut bricks = BrickPile::new(alloc);
+    if beams.is_empty() {
+        return Ok(Vec::new(alloc));
+    }
     let count = beams.len() as u64;
     if LEAST_KEYED <= count && count <= MOST_KEYED {
+        let mut bricks = BrickTable::dense(alloc)?;
         let keys = sorted_keys(alloc, beams)?;
         add_by_keys(&mut bricks, res, origin, start, beams, &keys, window)?;
+        let gathered = bricks.into_bricks()?;
+        Ok(gathered)
     } else {
+        let mut bricks = BrickTable::sparse(alloc);
         add_beams(&mut bricks, res, origin, start, beams, window)?;
+        let list = bricks.into_bricks()?;
+        Ok(list)
     }
-    Ok(bricks.into_bricks())
 }
 
 /// Adds what beams from one voxel change, in the order of their keys: beams that pass the same
 /// bricks mostly come one after another.
 fn add_by_keys(
-    bricks: &mut BrickPile,
+    bricks: &mut BrickTable,
     res: Res,
     origin: Point,
     start: Key,
@@ -89,7 +96,7 @@ fn add_by_keys(
 
 /// The same for beams that are too few or too many for keys, in their own order.
 fn add_beams(
-    bricks: &mut BrickPile,
+    bricks: &mut BrickTable,
     res: Res,
     origin: Point,
     start: Key,
@@ -112,7 +119,7 @@ fn add_beams(
 
 /// Adds what a beam changes in the box, where one stands.
 fn add_beam(
-    bricks: &mut BrickPile,
+    bricks: &mut BrickTable,
     res: Res,
     origin: Point,
     start: Key,
@@ -146,7 +153,7 @@ fn is_mute(window: &Option<Window>, beam: PlacedBeam) -> bool
 
 /// Adds the voxels of a beam but that of the end, as far as they lie in the box, where one stands.
 fn push_kept(
-    bricks: &mut BrickPile,
+    bricks: &mut BrickTable,
     res: Res,
     origin: Point,
     target: Point,
@@ -174,7 +181,7 @@ fn push_kept(
 /// The same in a box. A walk whose ends both lie in it lies in it with all its voxels, and none
 /// that passes it by has one there. Any other is walked from where it comes to the box.
 fn push_part(
-    bricks: &mut BrickPile,
+    bricks: &mut BrickTable,
     res: Res,
     origin: Point,
     target: Point,
@@ -204,7 +211,7 @@ fn push_part(
 }
 
 /// Adds the voxels of a walk that lie in a box, but not that of the end.
-fn push_inside(bricks: &mut BrickPile, walk: Walk, end: Key, window: &Window) -> Result<(), Memory>
+fn push_inside(bricks: &mut BrickTable, walk: Walk, end: Key, window: &Window) -> Result<(), Memory>
     requires ends { EndsAt end walk }
     requires onward { GoesTo end walk }
     requires bricks { All IsBrick bricks.old }
@@ -221,7 +228,7 @@ fn push_inside(bricks: &mut BrickPile, walk: Walk, end: Key, window: &Window) ->
 /// lies there, and else up to where it leaves it, since a box is convex.
 #[inline(never)]
 fn push_within<W: BeamWalk>(
-    bricks: &mut BrickPile,
+    bricks: &mut BrickTable,
     walk: W,
     end: Key,
     window: &Window,
@@ -275,7 +282,7 @@ fn come_in<W: BeamWalk>(walk: &mut W, end: Key, window: &Window) -> Option<u64>
 /// it.
 #[inline(always)]
 fn push_to_exit<W: BeamWalk>(
-    bricks: &mut BrickPile,
+    bricks: &mut BrickTable,
     walk: W,
     brick: Brick,
     window: &Window,
@@ -300,23 +307,42 @@ fn push_to_exit<W: BeamWalk>(
 }
 
 /// Adds the voxels of a walk but that of the end.
-fn push_way(bricks: &mut BrickPile, walk: Walk, end: u64) -> Result<(), Memory>
+fn push_way(bricks: &mut BrickTable, walk: Walk, end: u64) -> Result<(), Memory>
     requires ends { (k : Voxel) × IsInMap k × (morton_of k ≡ end) × EndsAt k walk }
     requires end { end < 2 ^ 48 }
     requires bricks { All IsBrick bricks.old }
     ensures { OnOk result (IsWayAdded None end walk bricks.old bricks.new) }
 {
     match walk.near(end) {
-        Ok(near) => push_steps(bricks, near, Brick::around(end)),
+        Ok(near) => {
+            if bricks.is_dense() {
+                return mark_steps(bricks, near);
+            }
+            push_steps(bricks, near, Brick::around(end))
+        }
         Err(walk) => push_steps(bricks, walk, Brick::around(end)),
     }
+}
+
+/// Sets the voxels of a walk but that of the end in a table.
+#[inline(never)]
+fn mark_steps<W: BeamWalk>(bricks: &mut BrickTable, walk: W) -> Result<(), Memory>
+    requires { All IsBrick bricks.old }
+    ensures { OnOk result ((end : Voxel) → IsInMap end → EndsAt end (W.to_come walk)
+        → IsWayAdded None (morton_of end) (W.to_come walk) bricks.old bricks.new) }
+{
+    let mut walk = walk;
+    while let Some(code) = walk.next_but_last() {
+        bricks.mark(code)?;
+    }
+    Ok(())
 }
 
 /// Adds the current brick and the voxels of a walk of either kind but that of the end.
 // Each kind has a function to itself, in which more of its numbers stand in registers, and the 0 of
 // the hits in none.
 #[inline(never)]
-fn push_steps<W: BeamWalk>(bricks: &mut BrickPile, walk: W, brick: Brick) -> Result<(), Memory>
+fn push_steps<W: BeamWalk>(bricks: &mut BrickTable, walk: W, brick: Brick) -> Result<(), Memory>
     requires bricks { All IsBrick bricks.old }
     requires current { IsCurrent brick }
     ensures { OnOk result ((end : Voxel) → IsInMap end → EndsAt end (W.to_come walk)
@@ -333,7 +359,7 @@ fn push_steps<W: BeamWalk>(bricks: &mut BrickPile, walk: W, brick: Brick) -> Res
 
 /// Adds a voxel to the current brick, where it lies in that, and else adds that one to the bricks,
 /// and goes on with the voxel's own.
-fn push_code(bricks: &mut BrickPile, brick: Brick, code: u64) -> Result<Brick, Memory>
+fn push_code(bricks: &mut BrickTable, brick: Brick, code: u64) -> Result<Brick, Memory>
     requires bricks { All IsBrick bricks.old }
     requires current { IsCurrent brick }
     requires code { code < 2 ^ 48 }
@@ -353,7 +379,7 @@ fn push_code(bricks: &mut BrickPile, brick: Brick, code: u64) -> Result<Brick, M
 }
 
 /// Adds a brick, where a voxel is freed in it.
-fn push_some(bricks: &mut BrickPile, brick: Brick) -> Result<(), Memory>
+fn push_some(bricks: &mut BrickTable, brick: Brick) -> Result<(), Memory>
     requires bricks { All IsBrick bricks.old }
     requires current { IsCurrent brick }
     ensures scanned { OnOk result ((c : ℕ) →
@@ -370,7 +396,7 @@ fn push_some(bricks: &mut BrickPile, brick: Brick) -> Result<(), Memory>
 }
 
 /// Adds the voxel of the end of a beam, which is hit, but not where the beam says nothing of it.
-fn push_end(bricks: &mut BrickPile, end: u64, is_mute: bool) -> Result<(), Memory>
+fn push_end(bricks: &mut BrickTable, end: u64, is_mute: bool) -> Result<(), Memory>
     requires bricks { All IsBrick bricks.old }
     requires end { end < 2 ^ 48 }
     ensures scanned { OnOk result ((c : ℕ) → Contains (scanned_codes bricks.new) c ↔

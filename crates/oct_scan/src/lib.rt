@@ -36,8 +36,11 @@
 //! bricks where they end, so that those that pass the same bricks mostly follow one another. One
 //! that doesn't lie in the box with both ends begins where it comes to the box, by a division for
 //! each axis, and is walked up to its end from its first voxel there, or up to where it leaves it.
-//! Its voxels go into the brick where the beam is, which is added to a pile when the beam leaves
-//! it. The pile remembers in a table where bricks stand. It merges them where those that the table
+//! In a scan whose beams are ordered each voxel is set in a table of 2^17 bricks, where a brick
+//! stands by the last bits of its code; it goes to the pile where another one takes its place. In
+//! any other scan, and in a box that a beam comes to or leaves, a beam's voxels go into the brick
+//! where it is, which is added to the pile when the beam leaves it. The pile remembers in a table
+//! of its own where bricks stand. It merges them where those that the table
 //! forgot become many, so that there are never more than twice as many as codes, and 2^18
 //! (`AreFew`): memory follows the bricks that the beams touch, however often they do. The bricks
 //! are sorted by their codes, and those of one code joined; each adds to the need the blocks that
@@ -59,6 +62,7 @@ mod need;
 mod order;
 mod pile;
 mod scan;
+mod table;
 mod update;
 
 pub use bricks::{UpdateBricks, update_bricks};
