@@ -13,7 +13,7 @@
 set -eu
 
 most_get=200        # nanoseconds
-most_get_all=150    # nanoseconds a point
+most_get_all=100    # nanoseconds a point
 most_leaves=15      # milliseconds
 most_empty=4096     # bytes
 most_scan=1.02      # times the session

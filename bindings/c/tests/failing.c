@@ -1,7 +1,7 @@
 /* Lets each allocation fail in turn, in every call that changes a map or lists things. A call then
  * answers that memory ran out, with the map as it was, or it was done all the same; at the end all
- * memory is given back. The other calls take no memory. Needs the linker's --wrap of malloc,
- * calloc, realloc and free. */
+ * memory is given back. The other calls take no memory, or answer the same without it. Needs the
+ * linker's --wrap of malloc, calloc, realloc and free. */
 #include "expect.h"
 
 static long to_go = -1; /* how many allocations still pass, or all */
@@ -45,7 +45,7 @@ void __wrap_free(void *old) {
     __real_free(old);
 }
 
-enum { POINTS = 40, ROOM = 1 << 17 };
+enum { POINTS = 40, ROOM = 1 << 17, MANY = 70000 };
 
 static octofix_details details;
 static octofix_point points[POINTS];
@@ -248,6 +248,29 @@ static void ask_without_memory(void) {
     EXPECT(live, 0);
 }
 
+/* Many points that lie far apart, some outside the map: they are answered the same with memory for
+ * the order of their codes, without, and one by one. */
+static void ask_many_points(void) {
+    static octofix_point many[MANY];
+    static octofix_answer with[MANY], without[MANY], alone;
+    octofix_map map = scanned(true);
+    for (size_t i = 0; i < MANY; i++)
+        many[i] = i % 2 ? points[i / 2 % POINTS] : at(i % 7 ? 9000 : 4000000, (int64_t)i % 5000, 0);
+    const long made_before = made;
+    EXPECT(octofix_get_all(&map, many, MANY, 16, with, MANY), 0);
+    EXPECT(made > made_before, true);
+    to_go = 0;
+    EXPECT(octofix_get_all(&map, many, MANY, 16, without, MANY), 0);
+    EXPECT(memcmp(with, without, sizeof with), 0);
+    for (size_t i = 0; i < MANY; i++) {
+        EXPECT(octofix_get_all(&map, &many[i], 1, 16, &alone, 1), 0);
+        EXPECT(memcmp(&with[i], &alone, sizeof alone), 0);
+    }
+    to_go = -1;
+    octofix_close(&map);
+    EXPECT(live, 0);
+}
+
 /* What is refused whatever memory there is, where there is none. */
 static void refuse_without_memory(void) {
     const octofix_limits few = {16, 1 << 20};
@@ -344,6 +367,7 @@ int main(void) {
     }
     told += fail_edits();
     ask_without_memory();
+    ask_many_points();
     refuse_without_memory();
     refuse_merges_without_memory();
     printf("failing: %ld allocations, %ld calls told that memory ran out, %d failed\n", made, told,

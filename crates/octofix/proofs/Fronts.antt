@@ -1,10 +1,14 @@
 -- Elements that are put into a buffer, one after another.
-use Rattle.std.proofs.Common.{◌≡◌, ℕ, ◌+◌, ◌<◌, ◌≤◌, List, [], ◌∷◌, ◌++◌, length, map, take, drop}
+use Rattle.std.proofs.Common.{◌≡◌, ℕ, ◌+◌, ◌-◌, ◌<◌, ◌≤◌, List, [], ◌∷◌, ◌++◌, length, map, take, drop}
 use Rattle.std.proofs.Common.{nat_lt, false, refl, sym, ap, ◌∙◌, arith, get_or, set}
 use Rattle.std.proofs.Common.{append_assoc}
 use Rattle.std.proofs.lemmas.Bool.{le-ltb}
 use Rattle.std.proofs.lemmas.List.{drop_more, length-append, length-map, length-take-le, map-append}
-use Rattle.std.proofs.lemmas.List.{set_at, take_all, take_more}
+use Rattle.std.proofs.lemmas.List.{drop-drop, drop_at, set_at, take-append-drop, take-take}
+use Rattle.std.proofs.lemmas.List.{take_all, take_at, take_more}
+use Rattle.std.proofs.lemmas.Slice.{between_is}
+use Rattle.std.specs.List.{between}
+use borrow.Rule.Slice.PartMut.{put_mid}
 use Rattle.octofix.specs.Buffers.{filled, fronted}
 
 -- one element more
@@ -41,3 +45,29 @@ front_whole f xs buffer now i all room is =
     let fits : nat_lt (length buffer) (length (map f xs)) ≡ false =
     le-ltb (length buffer) (length (map f xs)) (omega (arith, length-map xs f)) in
     is ∙ ap (λ ys. fronted buffer (map f ys)) (take_all i xs all) ∙ sym (rw fits refl)
+
+-- the elements of a part of the list more
+pub front_part : {X A : Type 0} (f : X → A) (xs : List X) (buffer now part : List A) (i e : ℕ)
+    → i ≤ e → e ≤ length xs → now ≡ fronted buffer (map f (take i xs))
+    → part ≡ map f (between i e xs)
+    → put_mid i (e - i) now part ≡ fronted buffer (map f (take e xs))
+front_part f xs buffer now part i e up within is told =
+    let ys = map f (take i xs) in
+    let done : length ys ≡ i = length-map (take i xs) f ∙ length-take-le i xs (omega arith) in
+    let ended : length (map f (take e xs)) ≡ e =
+    length-map (take e xs) f ∙ length-take-le e xs within in
+    let rest : drop i now ≡ drop i buffer =
+    ap (drop i) is ∙ drop_at ys (drop (length ys) buffer) i done ∙ ap (λ n. drop n buffer) done in
+    let cut : drop (e - i) (drop i now) ≡ drop e buffer =
+    ap (drop (e - i)) rest ∙ drop-drop (e - i) i buffer ∙ ap (λ n. drop n buffer) (omega arith) in
+    let whole : take i xs ++ between i e xs ≡ take e xs =
+    ap (λ zs. zs ++ between i e xs) (sym (take-take i e xs up))
+    ∙ ap (λ zs. take i (take e xs) ++ zs) (between_is xs i e) ∙ take-append-drop i (take e xs) in
+    let joined : ys ++ part ≡ map f (take e xs) =
+    ap (λ zs. ys ++ zs) told ∙ sym (map-append f (take i xs) (between i e xs)) ∙ ap (map f) whole in
+    ap (λ zs. zs ++ (part ++ drop (e - i) (drop i now)))
+    (ap (take i) is ∙ take_at ys (drop (length ys) buffer) i done)
+    ∙ ap (λ zs. ys ++ (part ++ zs)) cut
+    ∙ sym (append_assoc ys part (drop e buffer))
+    ∙ ap (λ zs. zs ++ drop e buffer) joined
+    ∙ ap (λ n. map f (take e xs) ++ drop n buffer) (sym ended)

@@ -4,6 +4,7 @@ pub mod Chains
 pub mod Fronts
 pub mod Handles
 pub mod InMap
+mod Keyed
 pub mod Loads
 pub mod Models
 pub mod Opened

@@ -1,4 +1,5 @@
 pub mod Asked
+pub mod Batches
 pub mod Bounds
 pub mod Buffers
 pub mod Casts

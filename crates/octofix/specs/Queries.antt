@@ -29,6 +29,14 @@ value_left old (Err refusal) = old
 abbrev pub answer_told : Result (Option ℤ) Refusal → PointAnswer
 answer_told answer = record { value = value_left (pos 0) answer; code = value_code answer }
 
+-- the same by the map
+abbrev pub told_at : ℕ → Map → PointNm → PointAnswer
+told_at depth m p = answer_told (value_at depth p m)
+
 -- what each of these points is answered
+abbrev pub told_all : ℕ → Map → List PointNm → List PointAnswer
+told_all depth m points = map (told_at depth m) points
+
+-- the same as an answer of the map
 abbrev pub answers_at : ℕ → List PointNm → Map → Result (List PointAnswer) Refusal
-answers_at depth points m = Ok (map (λ p. answer_told (value_at depth p m)) points)
+answers_at depth points m = Ok (told_all depth m points)

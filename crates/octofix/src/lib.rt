@@ -45,6 +45,7 @@
 #![tactic(auto)]
 
 mod answers;
+mod batches;
 mod bounds;
 mod casts;
 mod changes;

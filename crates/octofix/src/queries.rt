@@ -1,15 +1,16 @@
 //! What is known at points.
 ghost use Rattle.std.specs.Prelude.{◌≡◌, length};
-ghost use Rattle.oct_query.specs.Paths.{ArePathsOf};
 ghost use Rattle.octofix.specs.Asked.{asked};
 ghost use Rattle.octofix.specs.Buffers.{list_code, list_left};
+ghost use Rattle.octofix.specs.Codes.{of_map};
 ghost use Rattle.octofix.specs.Queries.{answer_told, answers_at, value_at, value_code, value_left};
 
+use crate::batches::{MOST_KEYED, answer_piece};
 use crate::handle::Octofix;
 use crate::refusal::{DONE, Refusal, SMALL_BUFFER, UNKNOWN};
 use crate::types::{PointAnswer, PointNm};
-use oct_map::OccMap;
-use oct_query::Paths;
+use oct_map::{MapFault, OccMap};
+use std::alloc::Global;
 
 /// Tells the value at a point.
 fn get(map: &OccMap, point: &PointNm, depth: u32, value: &mut i32) -> u32
@@ -26,13 +27,11 @@ fn get(map: &OccMap, point: &PointNm, depth: u32, value: &mut i32) -> u32
     }
 }
 
-/// What a point of many is answered, by the paths to those before it.
-fn answer_at(map: &OccMap, paths: &mut Paths, point: &PointNm, depth: u32) -> PointAnswer
-    requires { ArePathsOf map.now.tree paths.old }
-    ensures answer { result ≡ answer_told (value_at depth point.now map.now) }
-    ensures paths { ArePathsOf map.now.tree paths.new }
+/// What a point of many is told of an answer of the map.
+pub fn told(answer: Result<Option<i32>, MapFault>) -> PointAnswer
+    ensures { result ≡ answer_told (of_map answer) }
 {
-    match map.get_by(paths, point.point(), depth) {
+    match answer {
         Ok(Some(value)) => PointAnswer { value, code: DONE },
         Ok(None) => PointAnswer {
             value: 0,
@@ -46,7 +45,13 @@ fn answer_at(map: &OccMap, paths: &mut Paths, point: &PointNm, depth: u32) -> Po
 }
 
 /// Tells what each point is answered.
-fn get_all(map: &OccMap, points: &[PointNm], depth: u32, answers: &mut [PointAnswer]) -> u32
+fn get_all(
+    alloc: Global,
+    map: &OccMap,
+    points: &[PointNm],
+    depth: u32,
+    answers: &mut [PointAnswer],
+) -> u32
     ensures code { result
         ≡ list_code (length answers.old) (answers_at depth points.now map.now) }
     ensures answers { answers.new
@@ -55,9 +60,17 @@ fn get_all(map: &OccMap, points: &[PointNm], depth: u32, answers: &mut [PointAns
     if answers.len() < points.len() {
         return SMALL_BUFFER;
     }
-    let mut paths = map.paths();
-    for (i, point) in points.iter().enumerate() {
-        answers[i] = answer_at(map, &mut paths, point, depth);
+    let mut done = 0;
+    while done < points.len() {
+        let end = points.len().min(done + MOST_KEYED);
+        answer_piece(
+            alloc,
+            map,
+            &points[done..end],
+            depth,
+            &mut answers[done..end],
+        );
+        done = end;
     }
     DONE
 }
@@ -85,6 +98,7 @@ pub extern "C" fn octofix_get(
 /// The same of many points, each with a code of its own.
 #[unsafe(no_mangle)]
 pub extern "C" fn octofix_get_all(
+    alloc: Global,
     handle: &mut Octofix,
     points: &[PointNm],
     depth: u32,
@@ -98,7 +112,7 @@ pub extern "C" fn octofix_get_all(
         ≡ list_left answers.old (asked handle.old.slot.map (answers_at depth points.now)) }
 {
     match handle.map_mut() {
-        Ok(map) => get_all(map, points, depth, answers),
+        Ok(map) => get_all(alloc, map, points, depth, answers),
         Err(refusal) => refusal.code(),
     }
 }

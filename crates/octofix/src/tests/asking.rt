@@ -40,10 +40,10 @@ fn marked(rt: &impl Abort, alloc: Global) -> Octofix {
 }
 
 /// Expects this value at the origin, and nothing ahead.
-fn expect_values(rt: &impl Abort, map: &mut Octofix, want: i32) {
+fn expect_values(rt: &impl Abort, alloc: Global, map: &mut Octofix, want: i32) {
     let mut answers = [PointAnswer { value: 1, code: 1 }; 2];
     assert_eq!(rt;
-        octofix_get_all(map, &[ORIGIN, AHEAD], 16, &mut answers),
+        octofix_get_all(alloc, map, &[ORIGIN, AHEAD], 16, &mut answers),
         DONE
     );
     assert_eq!(rt; answers[0].value, want);
@@ -76,9 +76,9 @@ fn a_snapshot_keeps_values_and_a_file_keeps_classes(rt: HostRuntime) {
     let alloc = rt.alloc();
     let mut map = marked(&rt, alloc);
     snapshot_and_restore(&rt, alloc, &mut map);
-    expect_values(&rt, &mut map, 850);
+    expect_values(&rt, alloc, &mut map, 850);
     save_and_load(&rt, alloc, &mut map);
-    expect_values(&rt, &mut map, 3500);
+    expect_values(&rt, alloc, &mut map, 3500);
     octofix_close(alloc, &mut map);
     map.end();
 }

@@ -1,13 +1,14 @@
-use Rattle.std.proofs.Common.{◌≡◌, map, take}
-use Rattle.oct_query.specs.Paths.{ArePathsOf}
+use Rattle.std.proofs.Common.{◌≡◌, ◌≤◌, ◌-◌, length, map, take}
 use Rattle.octofix.specs.Buffers.{fronted}
-use Rattle.octofix.specs.Queries.{answer_told, value_at}
+use Rattle.octofix.specs.Queries.{told_at}
 use Rattle.octofix.proofs.queries.get_all.Given as goal
 
-abbrev pub invariant-loop-i : goal.invariant-loop-i
-invariant-loop-i l = record {
+abbrev pub invariant-loop-done : goal.invariant-loop-done
+invariant-loop-done l = record {
+  within : l.done ≤ length l.points;
   answers : l.answers
-      ≡ fronted l.initial.answers
-      (map (λ p. answer_told (value_at l.depth p l.map)) (take l.i l.points));
-  paths : ArePathsOf l.map.tree l.paths;
+      ≡ fronted l.initial.answers (map (told_at l.depth l.map) (take l.done l.points));
 }
+
+abbrev pub decreases-loop-done : goal.decreases-loop-done
+decreases-loop-done l = length l.points - l.done
