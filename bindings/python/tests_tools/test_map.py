@@ -1,5 +1,6 @@
 """What `octofix map` writes: the map, its values, the script; scans in parts; what is skipped."""
 
+import gzip
 import importlib.util
 import os
 import signal
@@ -203,7 +204,7 @@ class Processes(InFolder):
         run.send_signal(signal.SIGINT)
         _, said = run.communicate()
         os.close(held)
-        self.assertEqual(run.returncode, 130, said)
+        self.assertEqual(run.returncode, -signal.SIGINT, said)
         self.assertIn(b"stopped by Ctrl-C: the map has the scans until then", said)
         self.done("map", "--res", 1, DATA / "corner.xyz", "-o", "b.bt")
         with open("a.bt", "rb") as came, open("b.bt", "rb") as wanted:
@@ -262,6 +263,14 @@ class Bags(InFolder):
         os.symlink(DATA / "small.bag", "drive")
         cloud = "scan 0 0 0 1 0 0 0 all\np 2 0 0.25\np 0 1 0.5\nend\n"
         self.assertEqual(self.script("drive"), cloud * 3)
+
+    def test_packed(self):
+        content = gzip.compress((DATA / "small.bag").read_bytes())
+        for name in ("a.bag.gz", "a.bag", "drive"):
+            with open(name, "wb") as file:
+                file.write(content)
+            said = f"{name}: it is packed, and a ROS bag isn't unpacked: do so first"
+            self.refused(said, "map", "--res", "1", name, "-o", "a.bt")
 
     def test_topic(self):
         said = f"{DATA / 'small.bag'}: no clouds are on /foo (--topic); the bag has /points"

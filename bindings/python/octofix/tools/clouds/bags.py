@@ -7,6 +7,7 @@ from dataclasses import dataclass, replace
 import numpy as np
 
 from ..errors import Unusable, failing_as
+from ..files import GZIP
 from ..optional import needed
 from ..poses import IDENTITY, Pose
 from ..trajectory import Nearness, Track
@@ -60,6 +61,9 @@ def _clouds_in(name, topics):
 
 
 def _opened(rosbag, name):
+    with open(name, "rb") as file:
+        if file.read(len(GZIP)) == GZIP:
+            raise Unusable("it is packed, and a ROS bag isn't unpacked: do so first")
     try:
         return rosbag.Bag(name)
     except rosbag.ROSBagUnindexedException:
