@@ -1,7 +1,7 @@
 -- What a line does, and where desk and session then stand.
 use Rattle.std.proofs.Common.{◌≡◌, ℕ, ◌+◌, ◌≤◌, List, [], ◌∷◌, ◌++◌, ◌||◌, Bool, true, false, cond}
 use Rattle.std.proofs.Common.{is_some, IsSome, IsErr, Some, None, refl, Option, Result, Ok, Err}
-use Rattle.std.proofs.Common.{IfErr, IsErrAnd, inl, inr, sym, ap, subst, ◌∙◌, arith}
+use Rattle.std.proofs.Common.{IsErrAnd, inl, inr, sym, ap, subst, ◌∙◌, arith}
 use Rattle.oct_io.specs.Counts.{IsAskCounted}
 use Rattle.oct_io.specs.Files.{Files}
 use Rattle.oct_io.specs.declared.store.Store as store
@@ -27,7 +27,7 @@ use Rattle.oct_session.specs.declared.session.Session.{Session}
 use Rattle.oct_session.specs.Moments.{Works, HasParsed}
 use Rattle.oct_session.specs.Parsed.{command_in, TellsOpening}
 use Rattle.oct_session.specs.Commands.{FileWork, Saving, command_on, is_quit, asked_of}
-use Rattle.oct_session.specs.Commands.{kind_work, verb_work, named_in, file_named, asks_for}
+use Rattle.oct_session.specs.Commands.{kind_work, verb_work, file_named, asks_for}
 use Rattle.oct_session.specs.Commands.{map_reply, map_action, order_reply, order_action}
 use Rattle.oct_session.specs.Commands.{question_reply, question_action}
 use Rattle.oct_session.specs.Commands.{accepted, accepted_saving, stored}

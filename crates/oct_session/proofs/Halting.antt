@@ -1,7 +1,7 @@
 -- Sessions that are halted at a line, or at the end of the script.
 use Rattle.std.proofs.Common.{◌≡◌, ℕ, List, [], ◌∷◌, ◌++◌, take, drop, ◌||◌, true, false, cond}
-use Rattle.std.proofs.Common.{Option, None, IsSome, ◌<◌, length, length-drop, arith, Result, Ok}
-use Rattle.std.proofs.Common.{Err, IfErr, IsErrAnd, inl, inr, refl, sym, ap, subst, ◌∙◌}
+use Rattle.std.proofs.Common.{Option, None, IsSome, ◌<◌, length, length-drop, arith}
+use Rattle.std.proofs.Common.{inl, inr, refl, sym, ap, subst, ◌∙◌}
 use Rattle.std.proofs.Common.{append_assoc, append-nil}
 use Rattle.std.specs.Prelude.{◌⊎◌}
 use Rattle.std.proofs.lemmas.List.{take-append-drop}

@@ -1,6 +1,6 @@
 -- A piece of a script, line by line, with replies that are held.
 use Rattle.std.proofs.Common.{◌≡◌, ℕ, List, [], ◌∷◌, ◌++◌, take, drop, Option}
-use Rattle.std.proofs.Common.{Result, Ok, Err, OnOk, IfErr, IsErrAnd, Bool, true, false, cond, inl}
+use Rattle.std.proofs.Common.{Bool, true, false, cond, inl}
 use Rattle.std.proofs.Common.{refl, sym, ap, subst, ◌∙◌}
 use Rattle.oct_io.specs.Files.{Files}
 use Rattle.oct_io.specs.Taken.{IsCutOff}

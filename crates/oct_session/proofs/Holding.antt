@@ -2,7 +2,7 @@
 use Rattle.std.proofs.Common.{◌≡◌, ℕ, zero, suc, ◌+◌, ◌-◌, ◌<◌, ◌≤◌, ◌⊎◌, List, [], ◌∷◌, ◌++◌}
 use Rattle.std.proofs.Common.{length, take, drop, false, is_some, Option, inl, inr, refl, sym, ap}
 use Rattle.std.proofs.Common.{subst, ◌∙◌, arith, append_assoc, append-nil, length-append}
-use Rattle.std.proofs.Common.{length-drop, Result, Ok, Err, IfErr, IsErrAnd}
+use Rattle.std.proofs.Common.{length-drop, Result}
 use Rattle.std.proofs.Math.Seq.{take-append-add}
 use Rattle.std.proofs.lemmas.Bool.{cases_lt}
 use Rattle.std.proofs.lemmas.List.{take-append-drop}
@@ -16,7 +16,6 @@ use Rattle.oct_io.specs.declared.store.StoreFault.{StoreFault}
 use Rattle.oct_io.specs.declared.store.StoreFault.TheVariants as store_fault
 use Rattle.oct_script.specs.Lines.{Line}
 use Rattle.oct_script.specs.Replies.{text_of}
-use Rattle.oct_io.specs.declared.stop.Stop.{Stop}
 use Rattle.oct_session.specs.declared.scan_block.ScanBlock.{ScanBlock}
 use Rattle.oct_session.specs.declared.session.Session.{Session}
 use Rattle.oct_script.specs.declared.command.Command.{Command}

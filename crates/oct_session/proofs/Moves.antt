@@ -2,7 +2,7 @@
 use Rattle.std.proofs.Common.{◌≡◌, ℕ, ◌+◌, ◌<◌, List, [], ◌∷◌, ◌++◌, Option, Some, None}
 use Rattle.std.proofs.Common.{inl, inr, refl, sym, ap, subst, ◌∙◌, arith}
 use Rattle.std.proofs.Common.{Result, Ok, Err, IsErrAnd, length, false}
-use Rattle.std.specs.Prelude.{⊤, is_some, option_map}
+use Rattle.std.specs.Prelude.{is_some, option_map}
 use Rattle.oct_io.proofs.Appending.{appended_nil}
 use Rattle.oct_io.specs.Counts.{IsAskCounted}
 use Rattle.oct_io.specs.Stops.{stop_of_sink, stop_of_store, IsHalt}

@@ -5,7 +5,7 @@ use Rattle.std.proofs.Common.{length-append}
 use Rattle.std.proofs.Common.{Result, Ok, Err, IsErrAnd, length, take, drop, false, true}
 use Rattle.std.proofs.Common.{true≢false, Bool}
 use Rattle.std.proofs.Common.{cond}
-use Rattle.std.specs.Prelude.{⊤, option_map}
+use Rattle.std.specs.Prelude.{option_map}
 use Rattle.std.proofs.Math.Seq.{take-add}
 use Rattle.std.proofs.lemmas.List.{take-append-drop, take_all, length-take}
 use Rattle.oct_io.specs.Files.{Files}

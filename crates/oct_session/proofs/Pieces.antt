@@ -1,7 +1,7 @@
 -- A piece of a script, line by line.
 use Rattle.std.proofs.Common.{◌≡◌, ℕ, ◌≤◌, List, [], ◌∷◌, ◌++◌, length, take, drop, Option}
-use Rattle.std.proofs.Common.{None, Result, Ok, Err, OnOk, IfErr, IsErrAnd, Bool, true, cond}
-use Rattle.std.proofs.Common.{inl, inr, refl, sym, ap, subst, ◌∙◌, append_assoc}
+use Rattle.std.proofs.Common.{None, Bool, true, cond}
+use Rattle.std.proofs.Common.{inl, inr, sym, ap, subst, ◌∙◌, append_assoc}
 use Rattle.std.proofs.lemmas.List.{take_all, take-append-drop}
 use Rattle.oct_io.specs.Files.{Files}
 use Rattle.oct_io.specs.Told.{Rose, appended}
@@ -14,7 +14,6 @@ use Rattle.oct_session.specs.declared.session.Session.{Session}
 use Rattle.oct_session.specs.Session.{Progress, progress, closed}
 use Rattle.oct_session.specs.Setup.{Setup}
 use Rattle.oct_session.specs.Leaving.{Desk, IsKnown, IsHaltedBetween}
-use Rattle.oct_session.specs.Leaving.{IsHalted}
 use Rattle.oct_session.specs.Standing.{seated, Takes, Halts, IsInStep, HasReached, IsAt}
 use Rattle.oct_session.specs.Standing.{IsHaltedBehind, Reaches, HaltsAtEnd, IsStoppedIn, StopsIn}
 use Rattle.oct_session.specs.Standing.{IsCutBy}

@@ -1,6 +1,6 @@
 -- How the calls end that serve a script, whatever store a desk began with.
 use Rattle.std.proofs.Common.{◌≡◌, ℕ, ◌+◌, ◌≤◌, List, [], length, take, true, false, Option}
-use Rattle.std.proofs.Common.{Some, None, IfSome, Result, Ok, Err, OnOk, IfErr, IsErrAnd, sym}
+use Rattle.std.proofs.Common.{Some, None, IfSome, sym}
 use Rattle.std.proofs.Common.{subst}
 use Rattle.oct_io.specs.Files.{Files}
 use Rattle.oct_io.specs.Told.{Rose}

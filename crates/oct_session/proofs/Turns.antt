@@ -3,7 +3,6 @@ use Rattle.std.proofs.Common.{◌≡◌, ◌≢◌, ◌^◌, ℕ, ◌+◌, ◌-�
 use Rattle.std.proofs.Common.{None}
 use Rattle.std.proofs.Common.{refl, sym, ap, subst, ◌∙◌, arith, Result, Ok, Err, OnOk, IfSome}
 use Rattle.std.proofs.Common.{IsErrAnd, length, take, drop, true, false, true≢false}
-use Rattle.std.specs.Prelude.{⊤}
 use Rattle.std.proofs.lemmas.List.{length-take, take_all}
 use Rattle.oct_io.specs.FaultCounts.{IsStopCounted}
 use Rattle.oct_io.specs.Stops.{IsHalt, status_of}

@@ -1,5 +1,4 @@
-use Rattle.std.proofs.Common.{[], ◌++◌, ◌||◌, ◌∙◌, Result, Err, ap, refl}
-use Rattle.std.specs.Prelude.{⊤}
+use Rattle.std.proofs.Common.{[], ◌++◌, ◌||◌, ◌∙◌, ap, refl}
 use Rattle.oct_io.proofs.Appending.{appended_nil}
 use Rattle.oct_io.specs.declared.sink.SinkFault.{SinkFault}
 use Rattle.oct_io.specs.declared.sink.SinkFault.TheVariants.{Memory}
