@@ -24,7 +24,6 @@
 #include <algorithm>
 #include <array>
 #include <cmath>
-#include <cstdlib>
 #include <limits>
 #include <sstream>
 #include <string>
@@ -301,9 +300,8 @@ inline map from_octomap(const octomap::AbstractOcTree &tree,
 /// 17 Truncated, 18 TrailingBytes), and what from_octomap throws.
 inline map read_ot(std::istream &in, const limits &most = default_limits) {
     const detail::ot_header header = detail::read_ot_header(in);
-    char *end = nullptr;
-    const double res = std::strtod(header.res.c_str(), &end);
-    if (*end != '\0' || !(res > 0)) detail::refuse_file(OCTOFIX_BAD_FIELD, 1);
+    const double res = detail::number_of(header.res);
+    if (!(res > 0)) detail::refuse_file(OCTOFIX_BAD_FIELD, 1);
     octomap::OcTree tree(res);
     if (header.has_nodes) {
         detail::expect_nodes(in);

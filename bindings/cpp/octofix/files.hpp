@@ -8,8 +8,10 @@
 #include <filesystem>
 #include <fstream>
 #include <istream>
+#include <locale>
 #include <optional>
 #include <random>
+#include <sstream>
 #include <string>
 #include <system_error>
 #include <utility>
@@ -33,6 +35,15 @@ inline std::optional<bytes> rest_of(std::istream &in) {
     for (char part[1 << 14]; in.read(part, sizeof part) || in.gcount() > 0;)
         all.insert(all.end(), part, part + in.gcount());
     return in.bad() ? std::nullopt : std::make_optional(std::move(all));
+}
+
+/// The number that a text is, with the decimal point of files, whatever the program's locale has;
+/// 0 where it is none.
+inline double number_of(const std::string &text) {
+    std::istringstream in(text);
+    in.imbue(std::locale::classic());
+    double number = 0;
+    return in >> number && in.eof() ? number : 0;
 }
 
 /// Throws what errno says of a file.

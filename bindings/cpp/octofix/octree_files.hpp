@@ -87,12 +87,12 @@ inline bytes tree_of(std::istream &in) {
 inline double resolution_of(const bytes &file) {
     const std::size_t most = std::min<std::size_t>(file.size(), 65536);
     std::istringstream head(std::string(file.begin(), file.begin() + static_cast<long>(most)));
-    double res = 0;
+    std::string res;
     for (std::string line, word; std::getline(head, line) && word != "data";) {
         std::istringstream words(line);
         if (words >> word && word == "res") words >> res;
     }
-    return res;
+    return number_of(res);
 }
 
 /// A length in metres, to the nanometre.

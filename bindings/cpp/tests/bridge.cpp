@@ -5,8 +5,10 @@
 #include <octomap/ColorOcTree.h>
 #include <octomap/OcTreeStamped.h>
 
+#include <clocale>
 #include <cstdio>
 #include <limits>
+#include <locale>
 #include <random>
 
 namespace {
@@ -189,6 +191,24 @@ void try_ot_files(const std::string &folder) {
     tree.search(0, 0, 0)->setLogOdds(7.5f); // as of a tree with wider bounds
     EXPECT(tree.write(path));
     EXPECT(octofix::read_ot(path).get(octofix::metres(0, 0, 0)) == 7500);
+    EXPECT(refusal(whole.substr(0, data - 9) + "0.1x\ndata\n") == "BadField");
+    EXPECT(refusal(whole.substr(0, data - 9) + "-0.1\ndata\n") == "BadField");
+}
+
+/// A program whose locale has a comma, in C and in C++, reads files as others do.
+void try_locales(const std::string &folder) {
+    const std::string path = folder + "/map.ot";
+    octomap::OcTree tree(0.05);
+    tree.updateNode(octomap::point3d(1, 0, 0), true);
+    EXPECT(tree.write(path));
+    struct comma : std::numpunct<char> {
+        char do_decimal_point() const override { return ','; }
+    };
+    for (const char *name : {"de_DE.UTF-8", "fr_FR.UTF-8"}) std::setlocale(LC_NUMERIC, name);
+    std::locale::global(std::locale(std::locale(), new comma));
+    EXPECT(octofix::read_ot(path).settings().res == 50000000);
+    std::locale::global(std::locale::classic());
+    std::setlocale(LC_NUMERIC, "C");
 }
 
 } // namespace
@@ -200,6 +220,7 @@ int main(int count, char **words) {
     try_far_odds();
     try_refusals();
     try_ot_files(words[1]);
+    try_locales(words[1]);
     std::printf("bridge: %d failed\n", failed);
     return failed != 0;
 }

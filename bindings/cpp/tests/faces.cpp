@@ -377,6 +377,24 @@ void try_resolutions() {
     EXPECT(out.str().compare(0, head.size(), head) == 0);
 }
 
+/// A program whose locale has a comma reads and writes files as others do.
+void try_locales() {
+    struct comma : std::numpunct<char> {
+        char do_decimal_point() const override { return ','; }
+        char do_thousands_sep() const override { return '.'; }
+        std::string do_grouping() const override { return "\3"; }
+    };
+    octofix::OcTree tree(0.05), read(0.1);
+    tree.updateNode(1, 2, 3, true);
+    std::stringstream plain, file, values, again;
+    EXPECT(tree.writeBinary(plain) && tree.write(values));
+    const std::locale before = std::locale::global(std::locale(std::locale(), new comma));
+    EXPECT(tree.writeBinary(file) && file.str() == plain.str());
+    EXPECT(tree.write(again) && again.str() == values.str());
+    EXPECT(read.readBinary(file) && read.getResolution() == 0.05 && read.search(1, 2, 3));
+    std::locale::global(before);
+}
+
 void try_poses() {
     const octofix::Pose6D pose(1, 2, 3, 0.1, -0.2, 2.5);
     EXPECT(std::fabs(pose.roll() - 0.1) < 1e-6 && std::fabs(pose.pitch() + 0.2) < 1e-6);
@@ -532,6 +550,7 @@ int main(int, char **words) {
     try_keys();
     try_models();
     try_resolutions();
+    try_locales();
     try_poses();
     try_blocks();
     try_changes();
