@@ -3,7 +3,7 @@
 # Python has no numpy, the system's own one is tried.
 
 ''':'
-# (for the shell: a Ctrl-C waits while Python starts, which else tells where it came)
+# (for the shell: a Ctrl-C waits while Python starts, where it would give a traceback)
 block=--block-signal=INT
 env "$block" true 2>/dev/null || block=
 exec env $block @PYTHON@ "$0" "$@"
