@@ -48,7 +48,7 @@ pub fn gather(
     }
     let count = beams.len() as u64;
     if LEAST_KEYED <= count && count <= MOST_KEYED {
-        let mut bricks = BrickTable::dense(alloc)?;
+        let mut bricks = BrickTable::for_beams(alloc, count)?;
         let keys = sorted_keys(alloc, beams)?;
         add_by_keys(&mut bricks, res, origin, start, beams, &keys, window)?;
         let gathered = bricks.into_bricks()?;

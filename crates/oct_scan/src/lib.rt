@@ -36,7 +36,7 @@
 //! bricks where they end, so that those that pass the same bricks mostly follow one another. One
 //! that doesn't lie in the box with both ends begins where it comes to the box, by a division for
 //! each axis, and is walked up to its end from its first voxel there, or up to where it leaves it.
-//! In a scan whose beams are ordered each voxel is set in a table of 2^17 bricks, where a brick
+//! In a scan of 2^15 to 2^19 beams each voxel is set in a table of 2^17 bricks, where a brick
 //! stands by the last bits of its code; it goes to the pile where another one takes its place. In
 //! any other scan, and in a box that a beam comes to or leaves, a beam's voxels go into the brick
 //! where it is, which is added to the pile when the beam leaves it. The pile remembers in a table

@@ -15,6 +15,10 @@ use std::marker::Model;
 /// How many places a table has: one for each brick of a block of 64 by 64 by 32 of them.
 const PLACES: usize = 1 << 17;
 
+/// How many beams a scan has at least that has a table. To make one and to go through it takes as
+/// long as a table spares some 16,384 beams of 20 voxels.
+const LEAST_TABLED: u64 = 1 << 15;
+
 /// The bricks of the beams so far. In a dense scan those that beams pass stand in a table, by the
 /// last bits of their codes, so that a voxel is set with no search. A brick goes to the pile where
 /// another one takes its place.
@@ -49,8 +53,18 @@ impl BrickTable {
         }
     }
 
+    /// No bricks, with a table where so many beams are worth one.
+    pub fn for_beams(alloc: Global, count: u64) -> Result<BrickTable, Memory>
+        ensures { IfOk result (λ table. table ≡ []) }
+    {
+        if count < LEAST_TABLED {
+            return Ok(BrickTable::sparse(alloc));
+        }
+        BrickTable::dense(alloc)
+    }
+
     /// No bricks, with a table for a dense scan.
-    pub fn dense(alloc: Global) -> Result<BrickTable, Memory>
+    fn dense(alloc: Global) -> Result<BrickTable, Memory>
         ensures { IfOk result (λ table. table ≡ []) }
     {
         let mut places = Vec::new(alloc);
