@@ -23,6 +23,8 @@ from tf2_msgs.msg import TFMessage
 from visualization_msgs.msg import MarkerArray
 
 HERE = Path(__file__).resolve().parent
+# How long something is waited for, in seconds: processes start slowly where others are at work.
+LONGEST = 100
 LAUNCH = """<launch>
   <node pkg="octofix_ros" type="octofix_server.py" name="octomap_server" output="screen">
     <param name="resolution" value="0.1"/>
@@ -120,7 +122,7 @@ def wanted_map(scans):
     return world
 
 
-def until(holds, seconds=20):
+def until(holds, seconds=LONGEST):
     """Waits until something holds; false where it doesn't for so long."""
     end = time.monotonic() + seconds
     while not holds() and time.monotonic() < end:
@@ -154,7 +156,7 @@ class Server(unittest.TestCase):
         for name, kind in TOPICS.items():
             rospy.Subscriber(name, kind, lambda it, name=name: cls.heard.update({name: it}))
         try:
-            rospy.wait_for_service("/octomap_server/save", 20)
+            rospy.wait_for_service("/octomap_server/save", LONGEST)
         except rospy.ROSException:
             raise AssertionError(cls.said()) from None
         cls.play()
@@ -163,7 +165,7 @@ class Server(unittest.TestCase):
     def stop(cls):
         rospy.signal_shutdown("done")
         cls.launched.terminate()
-        cls.launched.wait(20)
+        cls.launched.wait(LONGEST)
 
     @classmethod
     def play(cls):
