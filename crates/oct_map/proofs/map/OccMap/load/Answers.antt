@@ -1,5 +1,5 @@
 use Rattle.std.proofs.Common.{◌≡◌, ◌<◌, ◌≤◌, IsOk, None, false, sym, ◌∙◌, ap, subst, arith, rules}
-use Rattle.std.proofs.Common.{refl}
+use Rattle.std.proofs.Common.{refl, inl}
 use Rattle.oct_arena.specs.Entries.{spare}
 use Rattle.oct_tree.specs.Tree.{Tree}
 use Rattle.oct_bt.specs.Records.{record_total}
@@ -38,3 +38,10 @@ returns-clause-loaded c =
     (search rules) (search rules)
     c.codes.ensures.accepted c.fill.ensures.values c.fill.ensures.pruned c.fill.ensures.groups
     c.fill.ensures.spare))
+
+pub returns-clause-answer : goal.returns-clause-answer
+returns-clause-answer c =
+    let same : c.args.file.now.res ≡ c.args.self.now.tree.res = search rules in
+    let fits : record_total c.args.file.now.codes ≤ c.args.self.now.max_groups = search rules in
+    inl (sym (load_fits (ground_of c.args.self.now) c.args.file.now.res
+    (record_total c.args.file.now.codes) same fits))
