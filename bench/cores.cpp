@@ -12,6 +12,7 @@
 #include <ctime>
 #include <map>
 #include <mutex>
+#include <pthread.h>
 #include <random>
 #include <string>
 
@@ -19,14 +20,18 @@ namespace {
 
 std::mutex lock;
 std::map<std::thread::id, double> scanning; // seconds of each thread
-double sharing = 0;                         // of the one that shares out
+clockid_t main_clock;                       // of the thread that shares the scans out
+double sharing_began = 0;                   // when it began
 std::map<const void *, double> ready;       // after how many seconds a map can be where it is
 
-double seconds_of_thread() {
+double seconds_of(clockid_t clock) {
     timespec now{};
-    clock_gettime(CLOCK_THREAD_CPUTIME_ID, &now);
+    clock_gettime(clock, &now);
     return static_cast<double>(now.tv_sec) + 1e-9 * static_cast<double>(now.tv_nsec);
 }
+double seconds_of_thread() { return seconds_of(CLOCK_THREAD_CPUTIME_ID); }
+/// What the thread that shares out has taken until now.
+double sharing() { return seconds_of(main_clock) - sharing_began; }
 
 /// What a map is known by, also when its handle has been moved.
 const void *key_of(const octofix_map *map) {
@@ -64,7 +69,7 @@ extern "C" std::uint32_t __wrap_octofix_merge(octofix_map *map, octofix_map *oth
     const double spent = seconds_of_thread() - began;
     const std::lock_guard<std::mutex> held(lock);
     const double both = std::max(ready[key_of(map)], ready[key_of(other)]);
-    ready[key_of(map)] = std::max(both, sharing) + spent;
+    ready[key_of(map)] = std::max(both, sharing()) + spent;
     return code;
 }
 
@@ -144,7 +149,7 @@ double longest_of_threads() {
 /// After how many seconds the map of all regions can be ready: scans, and the merges behind them
 /// that wait for each other.
 double ready_at_last() {
-    double last = sharing;
+    double last = sharing();
     for (const auto &[map, seconds] : ready) last = std::max(last, seconds);
     return last;
 }
@@ -165,18 +170,14 @@ bool run(const std::vector<look> &all, const std::vector<unsigned> &threads, tim
     for (const unsigned number : threads) {
         scanning.clear();
         ready.clear();
-        sharing = 0;
+        sharing_began = seconds_of_thread();
         octofix::mapper mapper(0.05, octofix::default_odds, most, number);
-        const double began = seconds_of_thread();
         for (const look &it : all) mapper.add(it.from, it.points, it.how);
-        {
-            const std::lock_guard<std::mutex> held(lock);
-            sharing = seconds_of_thread() - began;
-        }
-        is_same &= mapper.finish().snapshot() == wanted;
+        const octofix::map came = mapper.finish();
+        taken.sharing[number].push_back(sharing());
         taken.longest[number].push_back(longest_of_threads());
-        taken.sharing[number].push_back(sharing);
         taken.last[number].push_back(ready_at_last());
+        is_same &= came.snapshot() == wanted;
     }
     return is_same;
 }
@@ -201,6 +202,7 @@ bool is_fast(const char *name, times &taken, unsigned threads) {
 
 int main(int count, char **words) {
     if (count < 3) return 2;
+    pthread_getcpuclockid(pthread_self(), &main_clock);
     std::vector<unsigned> threads;
     for (int i = 2; i < count; ++i) threads.push_back(static_cast<unsigned>(std::atoi(words[i])));
     bool is_right = true;
