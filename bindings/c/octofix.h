@@ -468,8 +468,8 @@ uint32_t octofix_ray(int64_t res, const octofix_point *origin, const octofix_poi
                      octofix_key *keys, size_t room, size_t *count, octofix_details *details);
 
 /* Without a map: where points of a sensor's frame lie in that of the map. Each is turned by the
- * quaternion, rounded once to whole nanometres, and moved, as octofix_scan does it. There are as many
- * places as points, which begin elsewhere. Refused before anything is written: BAD_ARGUMENT (a
+ * quaternion, rounded once to whole nanometres, and moved, as octofix_scan does it. There are as
+ * many places as points, which begin elsewhere. Refused before anything is written: BAD_ARGUMENT (a
  * coordinate of magnitude 10^16 or more, of the sensor, with index 0, or of a point, with its
  * index), ZERO_QUATERNION, SMALL_BUFFER. */
 uint32_t octofix_place(const octofix_pose *pose, const octofix_point *points, size_t count,

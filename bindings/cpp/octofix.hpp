@@ -389,8 +389,8 @@ class voxels {
     });
 }
 
-/// Where points of a sensor's frame lie in that of the map, each turned, rounded once, and moved, as
-/// by a scan.
+/// Where points of a sensor's frame lie in that of the map, each turned, rounded once, and moved,
+/// as by a scan.
 [[nodiscard]] inline std::vector<point> place(const pose &sensor, view<point> points) {
     std::vector<point> places(points.size() + 1);
     details named{};
