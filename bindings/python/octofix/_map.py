@@ -17,7 +17,7 @@ from ._blocks import DEPTH, Blocks, blocks_of, voxels_in
 from ._errors import (
     OTHER_RESOLUTION, Closed, Interrupted, OutOfMemory, Refused, refusal_of_row,
 )
-from ._library import Call, at_once, done, rows_of
+from ._library import Call, do_calls, rows_of, without_lock
 from ._lock import ReadersWriterLock, writing_all
 from ._results import (
     UNKNOWN, Box, Casts, CastKind, Changes, Counted, Counts, Event, LeastTree, Limits, Odds, Rule,
@@ -344,7 +344,7 @@ class Map:
             rows = zip(lows[part].tolist(), highs[part].tolist(), numbers[part].tolist())
             corners = ((_library.Point(*low), _library.Point(*high), it) for low, high, it in rows)
             calls = [Call("edit_box", self._handle, *it[:2], event, it[2]) for it in corners]
-            done(self._lock.writing, *calls)
+            do_calls(self._lock.writing, *calls)
 
     def limit(self, low: npt.ArrayLike, high: npt.ArrayLike) -> None:
         """From now on scans change only voxels from that of `low` to that of `high`."""
@@ -385,7 +385,7 @@ class Map:
             self.prune()
             return
         both = partial(writing_all, (self._lock, other._lock))
-        done(both, Call("merge", self._handle, other._handle, by))
+        do_calls(both, Call("merge", self._handle, other._handle, by))
 
     def counts(self) -> Counts:
         """Prunes the map, and counts the least tree of its values."""
@@ -588,10 +588,10 @@ class Map:
             raise Closed
 
     def _ask(self, name: str, *arguments: Any) -> int:
-        return done(self._lock.reading, Call(name, self._handle, *arguments))[0]
+        return do_calls(self._lock.reading, Call(name, self._handle, *arguments))[0]
 
     def _do(self, name: str, *arguments: Any) -> None:
-        done(self._lock.writing, Call(name, self._handle, *arguments))
+        do_calls(self._lock.writing, Call(name, self._handle, *arguments))
 
     def _rows(self, dtype: npt.DTypeLike, name: str, *arguments: Any) -> npt.NDArray[Any]:
         return rows_of(self._lock.reading, dtype, name, self._handle, *arguments)
@@ -624,7 +624,7 @@ class Map:
         answers = np.empty(len(places), _library.ANSWER)
         rows = answers.ctypes.data, len(answers)
         asked = self._handle, places.ctypes.data, len(places), _depth(depth), *rows
-        done(self._lock.reading, Call("get_all", *asked), *beside)
+        do_calls(self._lock.reading, Call("get_all", *asked), *beside)
         codes, values = answers["code"], answers["value"].copy()
         is_unknown = codes == _library.UNKNOWN
         values[is_unknown] = UNKNOWN
@@ -669,4 +669,4 @@ def ray(res: float, origin: npt.ArrayLike, end: npt.ArrayLike) -> npt.NDArray[np
     uint16 (n, 3). Refused: 3, 24 (`point`).
     """
     way = _arrays.point(origin, "origin"), _arrays.point(end, "end")
-    return rows_of(at_once, _library.KEY, "ray", _arrays.edge(res), *way).copy()
+    return rows_of(without_lock, _library.KEY, "ray", _arrays.edge(res), *way).copy()
