@@ -42,10 +42,10 @@ after_scans() {
 
 : >"$folder/nothing"
 python3 "$here/make_commands.py" edits >"$folder/edits"
-measure edits "$(count nothing)" "$(count edits)" 100000 1840
+measure edits "$(count nothing)" "$(count edits)" 100000 1740
 scans=$(count scans)
 after_scans gets
-measure gets "$scans" "$(count gets)" 20000 1340
+measure gets "$scans" "$(count gets)" 20000 1280
 after_scans list
 measure 'blocks of a list' "$scans" "$(count list)" 1000000 210
 after_scans casts
@@ -62,5 +62,5 @@ taken=$(count save)
 measure 'bytes of a file that is saved' "$scans" "$taken" "$(saved save)" 450
 after_scans snapshot
 taken=$(count snapshot)
-measure 'bytes of a snapshot, written and restored' "$scans" "$taken" "$(saved snapshot)" 300
+measure 'bytes of a snapshot, written and restored' "$scans" "$taken" "$(saved snapshot)" 225
 exit "$failed"
