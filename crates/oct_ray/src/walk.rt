@@ -60,6 +60,7 @@ impl Walk {
     }
 
     /// The same walk, by whoever knows the voxels of both ends: they aren't looked for again.
+    #[inline(always)]
     pub fn between(res: Res, o: Point, e: Point, start: Key, end: Key) -> Walk
         requires start { key_at res o ≡ Some start }
         requires end { key_at res e ≡ Some end }
