@@ -26,10 +26,18 @@ _PART = 1 << 13  # rows that are converted at once, so that they stay in the cac
 Nanometres = npt.NDArray[np.int64]
 
 
+def _is_masked(values: np.ma.MaskedArray[Any, Any]) -> bool:
+    """Whether a number is behind the mask; of an array with fields one of x, y and z."""
+    if values.dtype.names is None:
+        return bool(np.ma.is_masked(values))
+    mask = np.ma.getmaskarray(values)
+    return any(bool(np.any(mask[it])) for it in values.dtype.names if it in ("x", "y", "z"))
+
+
 def unmasked(values: npt.ArrayLike, what: str) -> npt.ArrayLike:
     """The same values; numbers behind a mask are none, and are refused."""
     parts = values if isinstance(values, (list, tuple)) else (values,)
-    if any(isinstance(it, np.ma.MaskedArray) and np.ma.is_masked(it) for it in parts):
+    if any(isinstance(it, np.ma.MaskedArray) and _is_masked(it) for it in parts):
         raise ValueError(f"{what} has values that are masked; leave their rows out")
     return values
 

@@ -46,7 +46,8 @@ def pose(position: npt.ArrayLike, quaternion: npt.ArrayLike = (1, 0, 0, 0)) -> P
 
     ValueError where a number isn't finite, or it is none.
     """
-    place, turn = np.asarray(position, float), np.asarray(quaternion, float)
+    place = np.asarray(_arrays.unmasked(position, "a position"), float)
+    turn = np.asarray(_arrays.unmasked(quaternion, "a quaternion"), float)
     if place.shape != (3,) or turn.shape != (4,):
         raise ValueError("a pose is three numbers, and four of a quaternion")
     try:

@@ -166,7 +166,9 @@ class Clouds(InMap):
             with self.assertRaises(ValueError):
                 mapper.add_pose(time, (0, 0, 0))
         for place, turn in (((0, 0), (1, 0, 0, 0)), ((0, 0, 0), (0, 0, 0, 0)),
-                            ((math.nan, 0, 0), (1, 0, 0, 0)), ((0, 0, 0), (1, 0, 0))):
+                            ((math.nan, 0, 0), (1, 0, 0, 0)), ((0, 0, 0), (1, 0, 0)),
+                            (np.ma.masked_equal([1, 0, 3], 0), (1, 0, 0, 0)),
+                            ((0, 0, 0), np.ma.masked_equal([1, 2, 0, 0], 2))):
             with self.assertRaises(ValueError):
                 mapper.add_pose(0, place, turn)
         self.assertEqual(mapper.tally(), live.Tally())

@@ -380,6 +380,16 @@ class Points(unittest.TestCase):
         self.assertEqual(len(self.map.leaves()), 0)
         self.assertEqual(self.map.scan(points[:1]).hits, 1)
 
+    def test_masked_fields_are_refused(self):
+        """Those of x, y and z; what else a row has may be missing."""
+        rows = np.ma.zeros(2, [("x", "f4"), ("y", "f4"), ("z", "f4"), ("ring", "u1")])
+        rows["ring"][0] = np.ma.masked
+        self.assertEqual(self.map.scan(rows).hits, 1)
+        rows["y"][1] = np.ma.masked
+        for masked in (rows, rows[1]):
+            with self.assertRaisesRegex(ValueError, "points has values that are masked"):
+                self.map.get(masked)
+
 
 class Sensor(octofix.Map):
     """A map of a program, with more in it and another way to be made."""

@@ -304,6 +304,20 @@ class Words(InFolder):
             self.assertIn(f"argument -o/--output: c.snap {said}\n", ran.said)
         self.done("merge", "a.bt", "--snapshot", "c.snap")
 
+    def test_names_of_other_files(self):
+        """What is written is named as what it is."""
+        for option, name, said in (
+            ("--snapshot", "c.bt", "a .bt file, and a snapshot is written"),
+            ("--snapshot", "C.OT", "an .ot file, and a snapshot is written"),
+            ("-o", "c.ot", "an .ot file, and a .bt file, which has classes alone, is written"),
+            ("-o", "c.bt.gz", "a file packed by gzip, and a .bt file, which has classes alone, is "
+             "written"),
+        ):  # fmt: skip
+            for words in (["map", "--res", 1, "-"], ["merge", "a.bt"]):
+                ran = self.done(*words, option, name, status=2)
+                self.assertTrue(ran.said.endswith(f": {name} is named as {said}\n"), ran.said)
+                self.assertFalse(os.path.exists(name))
+
     def test_asked_wrongly(self):
         for said, *words in (
             ("nothing is to be written (-o, --snapshot or --script)", "map", "--res", 1, "-"),

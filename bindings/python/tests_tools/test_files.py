@@ -114,8 +114,8 @@ class Written(Maps):
         self.fails("no/a.bt: No such file or directory", "-o", "no/a.bt")
         self.fails(".: Is a directory", "-o", ".")
         self.fails("new/: Is a directory", "-o", "new/")
-        self.fails("new.bt: two outputs are this file, the other one as ./new.bt",
-                   "-o", "./new.bt", "--snapshot", "new.bt")  # fmt: skip
+        self.fails("new: two outputs are this file, the other one as ./new",
+                   "-o", "./new", "--snapshot", "new")  # fmt: skip
 
     def test_no_room(self):
         """Room for less than the map's file; what stood there stands."""
@@ -235,7 +235,7 @@ class Clashes(Maps):
         said = "it stands there and seems to be one of the maps (is FILE forgotten?); behind the "
         said += "maps, the option writes over it"
         self.refused(f"1.bt: {said}", "merge", "-o", "1.bt", "2.bt", "3.bt")
-        self.refused(f"1.bt: {said}", "merge", "--rule", "first", "--snapshot", "1.bt", "2.bt")
+        self.refused(f"1.bt: {said}", "merge", "--rule", "first", "-o", "1.bt", "2.bt")
         put_file("a_old.snap")
         self.refused(f"a_old.snap: {said}", "merge", "--snapshot", "a_old.snap", "B.snap", "1.bt")
         for words in (

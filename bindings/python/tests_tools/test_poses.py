@@ -242,6 +242,21 @@ class ByTime(InFolder):
         self.assertIn("gap: scan_7.5.xyz: no pose is near enough in time (--tolerance)", ran.said)
         self.assertIn("1 gaps without a pose", ran.said)
 
+    def test_two_poses_at_one_time(self):
+        """The same one twice is one; of others the first may be taken, and that is said."""
+        with open("poses.tum", "a") as file:
+            file.write("1.2 2 0 0 0 0 -0.7071067811865476 -0.7071067811865476\n")
+        words = ["--poses", "poses.tum", "--by-time", "--tolerance", "0.1", "scan_1.15.xyz"]
+        wanted = self.script(*words)
+        with open("poses.tum", "a") as file:
+            file.write("1.2 3 0 0 0 0 0 1\n")
+        said = "poses.tum: pose 4 is another one than pose 2, at the same time"
+        self.refused(said, "map", "--res", "1", *words, "--script", "-")
+        words = ["map", "--res", "1", *words, "--on-error", "skip", "--script", "-"]
+        ran = self.done(*words, status=3)
+        self.assertEqual(ran.output.decode(), wanted)
+        self.assertIn(f"skipped: {said}\n", ran.said)
+
     def test_tolerance(self):
         words = ["--poses", "poses.tum", "--by-time", *self.clouds]
         counts = [

@@ -16,12 +16,33 @@ class Output(str):
     """The name of a file that is written."""
 
 
+# What the ending of a name says of a file.
+NAMED = {
+    ".bt": "a .bt file",
+    ".snap": "a snapshot",
+    ".snapshot": "a snapshot",
+    ".ot": "an .ot file",
+    ".gz": "a file packed by gzip",
+}
+
+
 def classes_output(word):
     """The name of a .bt file that is written; not of a snapshot, whose values it would lack."""
-    if word.endswith((".snap", ".snapshot")):
-        raise argparse.ArgumentTypeError(
-            f"{word} is named as a snapshot, and a .bt file, which has classes alone, is written"
-        )
+    others = ".snap", ".snapshot", ".ot", ".gz"
+    return _named(word, others, "a .bt file, which has classes alone,")
+
+
+def values_output(word):
+    """The name of a snapshot that is written; not of a .bt file, which other programs read."""
+    return _named(word, (".bt", ".ot", ".gz"), "a snapshot")
+
+
+def _named(word, others, kind):
+    """The name of a file of a kind that is written; not with an ending of others."""
+    for it in others:
+        if word.lower().endswith(it):
+            said = f"{word} is named as {NAMED[it]}, and {kind} is written"
+            raise argparse.ArgumentTypeError(said)
     return Output(word)
 
 

@@ -38,6 +38,12 @@ class Pose:
         turn = turn / largest
         return Pose(at, turn / np.linalg.norm(turn))
 
+    def equals(self, other):
+        """Whether both are the same place and turn; a quaternion and its negative turn alike."""
+        turns = other.turn, -other.turn
+        is_turned_so = any(np.array_equal(self.turn, it) for it in turns)
+        return is_turned_so and np.array_equal(self.at, other.at)
+
     def is_identity(self):
         return not self.at.any() and not self.turn[1:].any()
 

@@ -107,9 +107,10 @@ class ByTime:
 
     def __init__(self, name, skips, nearness, *, times=None, form=None):
         """times: the name of a file of the times of the clouds in turn; else their names say."""
-        found = [it for it in read_poses(name, skips, form) if it[1] is not None]
-        if any(time is None for time, _ in found):
+        found = read_poses(name, skips, form)
+        if any(time is None for time, pose in found if pose is not None):
             raise Unusable("its poses have no times, which --by-time takes", name)
+        found = _one_each(found, name, skips)
         self.track, self.times_name = Track(found, nearness), times
         self.times = None if times is None else read_times(times)
 
@@ -126,6 +127,19 @@ class ByTime:
                 raise Unusable(why, self.times_name)
             return self.track.at(self.times[number])
         return self.track.at(time_of_name(cloud.name) if cloud.time is None else cloud.time)
+
+
+def _one_each(poses, name, skips):
+    """Those that can be used, one for each time; of several that differ only the first may be."""
+    found = {}
+    for number, (time, pose) in enumerate(poses, 1):
+        if pose is None:
+            continue
+        first, before = found.setdefault(time, (number, pose))
+        if not pose.equals(before):
+            said = f"pose {number} is another one than pose {first}, at the same time"
+            skips.judge(Unusable(said, name))
+    return [(time, pose) for time, (_, pose) in found.items()]
 
 
 def between(first, second, part):

@@ -16,7 +16,9 @@ import os
 
 from octofix import Map, Refused
 
-from ..arguments import Output, add_scans, classes_output, length, region, thousandths, whole
+from ..arguments import (
+    Output, add_scans, classes_output, length, region, thousandths, values_output, whole,
+)  # fmt: skip
 from ..clashes import refuse_clouds
 from ..errors import DONE, INTERRUPTED, SKIPPED, Unusable
 from ..files import WRITING, written
@@ -31,7 +33,7 @@ from ..setup import scans_of
 HELP = "clouds to a map"
 OUTPUTS = {
     "output": (("-o", "--output"), classes_output, "the .bt file of the map"),
-    "snapshot": (("--snapshot",), Output, "the map with its values"),
+    "snapshot": (("--snapshot",), values_output, "the map with its values"),
     "script": (("--script",), Output, "commands for 'octomap build' or a session"),
 }
 # What is refused by the map, in the words of the options.

@@ -13,7 +13,7 @@ whole, or a region is missing.
 
 from octofix import Refused, Rule
 
-from ..arguments import Input, Output, classes_output
+from ..arguments import Input, classes_output, values_output
 from ..clashes import refuse_first
 from ..errors import DONE, Unusable
 from ..files import WRITING, written
@@ -38,8 +38,9 @@ def arguments(parser):
         help="the .bt file; - is the output",
     )  # fmt: skip
     parser.add_argument(
-        "--snapshot", type=Output, metavar="FILE", help="the map with its values; - is the output"
-    )
+        "--snapshot", type=values_output, metavar="FILE",
+        help="the map with its values; - is the output",
+    )  # fmt: skip
     parser.add_argument(
         "--rule", choices=[*RULES],
         help="the value where several know a voxel: that of the first of the maps, the greatest or "
