@@ -439,7 +439,7 @@ class map {
     [[nodiscard]] static map from_file(const std::filesystem::path &path,
                                        const odds &log_odds = default_odds,
                                        const limits &most = default_limits) {
-        const bytes file = detail::read_file(path);
+        const bytes file = detail::read_map(path);
         return detail::is_snapshot(file) ? from_snapshot(file, log_odds, most)
                                          : from_bt(file, log_odds, most);
     }
@@ -704,11 +704,11 @@ class map {
         detail::check(octofix_restore(&handle_, detail::start(file), file.size(), &named), named);
     }
     void save_to(const std::filesystem::path &path) const { detail::write_file(path, save()); }
-    void load_from(const std::filesystem::path &path) { load(detail::read_file(path)); }
+    void load_from(const std::filesystem::path &path) { load(detail::read_map(path)); }
     void snapshot_to(const std::filesystem::path &path) const {
         detail::write_file(path, snapshot());
     }
-    void restore_from(const std::filesystem::path &path) { restore(detail::read_file(path)); }
+    void restore_from(const std::filesystem::path &path) { restore(detail::read_map(path)); }
 
     /// The handle, for a call of octofix.h.
     [[nodiscard]] const octofix_map *handle() const { return &handle_; }

@@ -5,9 +5,10 @@
 //     octofix::map world = mapper.finish();              // that of one thread, to the voxel
 //
 // Each thread has a map of a region, in which it does the beams of all scans that come near to it.
-// Points are turned once for all of them. In finish() a thread that is done merges its map with that
-// of another one that is, while the others still map. The regions are cut where the first scans walk through most, before
-// which no scan is done; the later ones are done as fast where they go there, too.
+// Points are turned once for all of them. In finish() a thread that is done merges its map with
+// that of another one that is, while the others still map. The regions are cut where the first
+// scans walk through most, before which no scan is done; the later ones are done as fast where they
+// go there, too.
 #ifndef OCTOFIX_MAPPER_HPP
 #define OCTOFIX_MAPPER_HPP
 

@@ -7,8 +7,9 @@
 //     octofix::map old = octofix::read_ot("old.ot");   // by the OctoMap library's own reader
 //
 // Numbers are thousandths of log-odds here and floats there. To the tree goes the float that is
-// nearest to a number, and back comes the thousandth that is nearest to a float, so that a map comes
-// back as it was. A value of a tree within half a thousandth of its threshold may change its class.
+// nearest to a number, and back comes the thousandth that is nearest to a float, so that a map
+// comes back as it was. A value of a tree within half a thousandth of its threshold may change its
+// class.
 //
 // What no map of octofix can be is told by not_a_map, with a name; a resolution or log-odds that it
 // can't have by refused (3 BadResolution, 4 BadModel), as by the map's constructor.

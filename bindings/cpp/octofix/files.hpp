@@ -3,11 +3,13 @@
 #define OCTOFIX_FILES_HPP
 
 #include <cerrno>
+#include <cstddef>
 #include <cstdint>
 #include <cstdio>
 #include <filesystem>
 #include <fstream>
 #include <istream>
+#include <limits>
 #include <locale>
 #include <optional>
 #include <random>
@@ -28,11 +30,12 @@ using bytes = std::vector<std::uint8_t>;
 
 namespace detail {
 
-/// All that a stream still has; none where it can't be read.
-inline std::optional<bytes> rest_of(std::istream &in) {
+/// All that a stream still has, or more than so many bytes of it; none where it can't be read.
+inline std::optional<bytes> rest_of(std::istream &in, std::size_t most) {
     if (!in) return std::nullopt;
     bytes all;
-    for (char part[1 << 14]; in.read(part, sizeof part) || in.gcount() > 0;)
+    for (char part[1 << 14];
+         all.size() <= most && (in.read(part, sizeof part) || in.gcount() > 0);)
         all.insert(all.end(), part, part + in.gcount());
     return in.bad() ? std::nullopt : std::make_optional(std::move(all));
 }
@@ -52,12 +55,19 @@ inline double number_of(const std::string &text) {
                                             std::error_code(errno, std::generic_category()));
 }
 
-inline bytes read_file(const std::filesystem::path &path) {
+/// A file; of one that has more than so many bytes, as a device without an end, so many and more.
+inline bytes read_file(const std::filesystem::path &path,
+                       std::size_t most = std::numeric_limits<std::size_t>::max()) {
     errno = 0;
     std::ifstream file(path, std::ios::binary);
-    std::optional<bytes> content = rest_of(file);
+    std::optional<bytes> content = rest_of(file, most);
     if (!content) fail("can't be read", path);
     return *std::move(content);
+}
+
+/// A map's file; of one that has more bytes than a map may have, so many that it is refused.
+inline bytes read_map(const std::filesystem::path &path) {
+    return read_file(path, std::size_t{1} << 30);
 }
 
 /// An open file that is to be written, and its name in errors.

@@ -102,6 +102,7 @@ void try_pipes_and_devices(const fs::path &folder) {
     world.save_to(pipe);
     reader.join();
     EXPECT(came == world.save() && fs::is_fifo(pipe));
+    EXPECT(octofix::detail::read_file("/dev/zero", 100'000).size() > 100'000);
     fs::create_symlink("/dev/full", full);
     EXPECT(error_of(full, [&] { world.save_to(full); }) == ENOSPC);
     EXPECT(fs::is_character_file("/dev/full"));
