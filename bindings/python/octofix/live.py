@@ -24,7 +24,7 @@ import numpy as np
 import numpy.typing as npt
 
 from . import _arrays
-from ._errors import BadPoints, Refused
+from ._errors import BadPoints, Interrupted, Refused
 from ._files import PathLike
 from ._map import Map
 from ._results import Changes
@@ -253,7 +253,7 @@ class Mapper:
 
         ValueError where it has another shape, masked values, or numbers that aren't real, or the
         time isn't finite. What the map refuses isn't raised, but counted; memory that runs out is,
-        and that cloud is lost.
+        and that cloud is lost. After a Ctrl-C it is in the map and counted, or it waits.
         """
         _check_time(time)
         rows = np.array(_arrays.unmasked(points, "a cloud"))  # (a copy, since it may wait)
@@ -324,7 +324,6 @@ class Mapper:
                 self._give_up(cloud, str(why))
                 continue
             if found is not None:
-                self._waiting.remove(cloud)
                 self._map(cloud, found)
             elif cloud.later - cloud.time > self._patience:
                 self._give_up(cloud, f"no pose for {cloud.time} came in time")
@@ -336,12 +335,26 @@ class Mapper:
         self._tally = self._tally._replace(without_pose=self._tally.without_pose + 1, why=why)
 
     def _map(self, cloud: _Waiting, at: Pose) -> None:
-        points = self._measured(cloud.points, at)
+        """Maps a cloud that waits. One that is interrupted before it is in the map waits on."""
         try:
+            points = self._measured(cloud.points, at)
             self.world.scan(points, at.at, at.turn, self._range)
         except (Refused, BadPoints) as why:
+            self._waiting.remove(cloud)
             self._tally = self._tally._replace(refused=self._tally.refused + 1, why=str(why))
-            return
+        except KeyboardInterrupt as why:
+            if isinstance(why, Interrupted) and why.done:
+                self._count(cloud, points)
+            raise
+        except BaseException:
+            self._waiting.remove(cloud)
+            raise
+        else:
+            self._count(cloud, points)
+
+    def _count(self, cloud: _Waiting, points: npt.NDArray[Any]) -> None:
+        """Counts a cloud of which these points are in the map."""
+        self._waiting.remove(cloud)
         self._tally = self._tally._replace(
             mapped=self._tally.mapped + 1,
             points=self._tally.points + len(points),

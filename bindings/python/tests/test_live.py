@@ -5,6 +5,7 @@ import tempfile
 import threading
 import unittest
 from concurrent.futures import ThreadPoolExecutor
+from unittest import mock
 
 import numpy as np
 
@@ -150,6 +151,27 @@ class Clouds(InMap):
         self.assertEqual(mapper.tally(), live.Tally(refused=1, why=said))
         mapper.add_cloud(0, [[1, 0, 0]])
         self.assertEqual(self.occupied(), [[1.05, 0.05, 0.05]])
+
+    def test_interrupted(self):
+        """A cloud is mapped and counted, or it waits for the next call."""
+        mapper = self.mapper()
+        mapper.add_pose(0, (0, 0, 0))
+        scan = mapper.world.scan
+        for is_done in (False, True):
+            def stopped(*words):
+                if is_done:
+                    scan(*words)
+                raise octofix.Interrupted(is_done)
+
+            mapper.clear()
+            with mock.patch.object(mapper.world, "scan", stopped):
+                with self.assertRaises(KeyboardInterrupt):
+                    mapper.add_cloud(0, [[1, 0, 0]])
+            wanted = live.Tally(mapped=1, points=1) if is_done else live.Tally(waiting=1)
+            self.assertEqual(mapper.tally(), wanted)
+            mapper.work()
+            self.assertEqual(mapper.tally(), live.Tally(mapped=1, points=1))
+            self.assertEqual(self.occupied(), [[1.05, 0.05, 0.05]])
 
     def test_what_is_no_cloud_and_no_pose(self):
         mapper = self.mapper()
