@@ -1,7 +1,9 @@
 """Runs the command octofix within this process, in a folder of its own."""
 
+import contextlib
 import io
 import os
+import resource
 import sys
 import tempfile
 import unittest
@@ -35,6 +37,17 @@ def octofix(*words, given=b""):
             status = end.code
         output, said = (it.buffer.getvalue() for it in streams)
     return Ran(status, output, said.decode())
+
+
+@contextlib.contextmanager
+def files_of_at_most(count):
+    """Within this no file may have more bytes. (A fault is told behind it: that may go to one.)"""
+    limits = resource.getrlimit(resource.RLIMIT_FSIZE)
+    resource.setrlimit(resource.RLIMIT_FSIZE, (count, limits[1]))
+    try:
+        yield
+    finally:
+        resource.setrlimit(resource.RLIMIT_FSIZE, limits)
 
 
 class InFolder(unittest.TestCase):

@@ -2,10 +2,9 @@
 
 import json
 import os
-import resource
 
 import numpy as np
-from running import InFolder
+from running import InFolder, files_of_at_most
 
 from octofix import Map
 
@@ -36,11 +35,8 @@ class Flat(InFolder):
 
     def test_without_room(self):
         """A fault names the file, leaves none, and the same words may be tried again."""
-        limits = resource.getrlimit(resource.RLIMIT_FSIZE)
-        self.addCleanup(resource.setrlimit, resource.RLIMIT_FSIZE, limits)
-        resource.setrlimit(resource.RLIMIT_FSIZE, (100_000, limits[1]))
-        self.refused("flat/clouds/0.npy: File too large", "example", "flat")
-        resource.setrlimit(resource.RLIMIT_FSIZE, limits)
+        with files_of_at_most(100_000):
+            self.refused("flat/clouds/0.npy: File too large", "example", "flat")
         self.assertEqual([it for *_, files in os.walk("flat") for it in files], [])
         self.done("example", "flat")
         self.assertEqual(len(os.listdir("flat/clouds")), 7)

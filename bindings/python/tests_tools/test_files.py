@@ -3,7 +3,6 @@
 import errno
 import io
 import os
-import resource
 import stat
 import subprocess
 import sys
@@ -11,7 +10,7 @@ import threading
 from unittest import mock
 
 import numpy as np
-from running import InFolder, save_map
+from running import InFolder, files_of_at_most, save_map
 
 from octofix import Map, _files
 from octofix.tools.command import main
@@ -120,20 +119,14 @@ class Written(Maps):
     def test_no_room(self):
         """Room for less than the map's file; what stood there stands."""
         put_file("a.bt")
-        limits = resource.getrlimit(resource.RLIMIT_FSIZE)
-        resource.setrlimit(resource.RLIMIT_FSIZE, (len(self.wanted) // 2, limits[1]))
-        try:
+        with files_of_at_most(len(self.wanted) // 2):
             self.fails("a.bt: File too large", "-o", "a.bt", "--script", "a.txt")
-        finally:
-            resource.setrlimit(resource.RLIMIT_FSIZE, limits)
         self.assertEqual(content_of("a.bt"), b"old")
 
     def test_no_room_of_every_command(self):
         """What stood there stands, and nothing else is left."""
         save_map("m.bt", 0.5, {(0, 0, 0): 9})
         box = "--box", 0, 0, 0, 1, 1, 1
-        limits = resource.getrlimit(resource.RLIMIT_FSIZE)
-        self.addCleanup(resource.setrlimit, resource.RLIMIT_FSIZE, limits)
         for name, *words in (
             ("a.bt", "merge"), ("a.snap", "merge", "--snapshot"), ("a.pgm", "grid"),
             ("a.png", "view"), ("a.png", "view", "--oblique"), ("a.png", "view", "--slice", 0),
@@ -143,10 +136,9 @@ class Written(Maps):
             option = [] if words[-1] == "--snapshot" else ["-o"]
             put_file(name)
             before = set(os.listdir())
-            resource.setrlimit(resource.RLIMIT_FSIZE, (5, limits[1]))
             said = f"{name}: File too large"
-            self.refused(said, words[0], "m.bt", *words[1:], *option, name)
-            resource.setrlimit(resource.RLIMIT_FSIZE, limits)
+            with files_of_at_most(5):
+                self.refused(said, words[0], "m.bt", *words[1:], *option, name)
             self.assertEqual((content_of(name), set(os.listdir())), (b"old", before))
 
     def test_all_or_none(self):
