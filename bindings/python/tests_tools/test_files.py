@@ -116,6 +116,13 @@ class Written(Maps):
         self.fails("new: two outputs are this file, the other one as ./new",
                    "-o", "./new", "--snapshot", "new")  # fmt: skip
 
+    def test_a_folder_that_is_gone(self):
+        os.mkdir("gone")
+        os.chdir("gone")
+        os.rmdir("../gone")
+        words = "map", "--res", "1", "-", "-o", "a.bt"
+        self.refused("a.bt: No such file or directory", *words, given=CLOUD)
+
     def test_no_room(self):
         """Room for less than the map's file; what stood there stands."""
         put_file("a.bt")

@@ -5,6 +5,8 @@ import os
 import re
 import stat
 
+from octofix import _files
+
 from .arguments import Input, Output
 from .errors import Unusable
 
@@ -86,7 +88,11 @@ def _status(name, descriptor):
 
 def _identity(name, descriptor):
     found = _status(name, descriptor)
-    return (found.st_dev, found.st_ino) if found else os.path.realpath(name)
+    if found:
+        return found.st_dev, found.st_ino
+    # (the folder of the process may be gone)
+    with _files.named(name):
+        return os.path.realpath(name)
 
 
 def _is_kept(name, descriptor):
