@@ -1,7 +1,6 @@
 //! Groups under ids: taken from the entries that were given back, or from those never taken.
 ghost use Rattle.std.specs.Prelude.{◌≡◌, ℕ, ◌+◌, ◌-◌, ◌*◌, ◌<◌, ◌≤◌, ◌^◌, [], ◌++◌, length};
-ghost use Rattle.std.specs.Prelude.{slice_set, Some, None, OnOk, OnErr, IsOk, max, pos};
-ghost use Rattle.std.specs.Prelude.{option_map};
+ghost use Rattle.std.specs.Prelude.{slice_set, Some, None, OnOk, OnErr, IsOk, max, option_map};
 ghost use Rattle.oct_arena.specs.declared.node.Node.TheVariants.{Inner};
 ghost use Rattle.oct_key.specs.Block.{Cube};
 ghost use Rattle.oct_key.specs.CubeOf.{cube_of};

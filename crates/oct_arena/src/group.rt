@@ -1,5 +1,5 @@
 //! Eight nodes and the block that they divide, or a vacant entry that links the next one.
-ghost use Rattle.std.specs.Prelude.{◌≡◌, ◌≤◌, ◌↔◌, IsTrue, length, Some, option_map};
+ghost use Rattle.std.specs.Prelude.{◌≡◌, ◌≤◌, ◌↔◌, IsTrue, Some, option_map};
 ghost use Rattle.oct_key.specs.Block.{child_of};
 ghost use Rattle.oct_arena.specs.Entries.{node_of};
 ghost use Rattle.oct_arena.specs.Free.{linked_number};

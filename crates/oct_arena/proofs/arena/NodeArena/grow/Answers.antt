@@ -1,4 +1,4 @@
-use Rattle.std.proofs.Common.{◌≡◌, ◌+◌, ◌≤◌, ◌^◌, subst, sym, length, arith}
+use Rattle.std.proofs.Common.{◌+◌, ◌≤◌, ◌^◌, subst, sym, length, arith}
 use Rattle.oct_arena.specs.Entries.{IsArena}
 use Rattle.oct_arena.proofs.FreeLists.{entries, is_arena}
 use Rattle.oct_arena.proofs.Calls.{lengths, grew}

@@ -1,4 +1,4 @@
-use Rattle.std.proofs.Common.{rules, ◌≡◌, ◌∙◌, ◌+◌, ◌-◌, ◌<◌, ◌≤◌, suc, ap, subst, sym, refl}
+use Rattle.std.proofs.Common.{rules, ◌≡◌, ◌∙◌, ◌+◌, ◌-◌, ◌<◌, ap, subst, sym, refl}
 use Rattle.std.proofs.Common.{arith, length, Some}
 use Rattle.std.specs.Prelude.{slice_set}
 use Rattle.oct_arena.specs.declared.node.Group.{Group}

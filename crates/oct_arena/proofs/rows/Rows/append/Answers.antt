@@ -2,7 +2,7 @@ use Rattle.std.proofs.Common.{◌≡◌, ◌+◌, ◌*◌, ◌≤◌, ◌^◌, �
 use Rattle.std.proofs.Common.{ap, arith, length, length-append, None, Option}
 use Rattle.std.proofs.lemmas.List.{length-replicate}
 use Rattle.oct_arena.specs.declared.node.Group.{Group}
-use Rattle.oct_arena.specs.Entries.{Groups, vacant}
+use Rattle.oct_arena.specs.Entries.{Groups}
 use Rattle.oct_arena.specs.Chunks.{joined, AllFull}
 use Rattle.oct_arena.proofs.Chunks.{length_joined, full_more, joined_more}
 use Rattle.oct_arena.proofs.rows.Rows.append.Goals as goal
