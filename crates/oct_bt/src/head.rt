@@ -203,8 +203,8 @@ impl Head {
         }
     }
 
-    /// Takes one more byte, and answers the header where it ends the data line. Memory runs out only
-    /// where the line goes on with it.
+    /// Takes one more byte, and answers the header where it ends the data line. Memory runs out
+    /// only where the line goes on with it.
     pub(crate) fn take(&mut self, byte: u8) -> Result<Option<Result<Header, BtFault>>, Memory>
         ensures taken { IfOk result (λ ended.
             after_head_byte self.old byte ≡ after_take ended self.new) }

@@ -87,9 +87,9 @@ impl Reader {
         }
     }
 
-    /// Takes a piece more, however the file is cut. Memory runs out only where a byte of it is kept:
-    /// one of a header's line, or the second one of a record, and none after a fault that no further
-    /// byte changes. After `Memory` every later call answers it.
+    /// Takes a piece more, however the file is cut. Memory runs out only where a byte of it is
+    /// kept: one of a header's line, or the second one of a record, and none after a fault that no
+    /// further byte changes. After `Memory` every later call answers it.
     pub fn feed(&mut self, piece: &[u8]) -> Result<(), Memory>
         ensures reads { OnOk result ((text : List ℕ) → StandsFor self.old text
             → StandsFor self.new (text ++ piece.now)) }
