@@ -107,34 +107,6 @@ keyed_moved f points keys keys' m n answers moved most h = λ j d p l.
       | inr there ↦ inr (key_moves keys keys' j moved there)
     ]
 
--- a key from an index on that isn't the one there
-key_later : (keys : List ℕ) (i j : ℕ) (key : ℕ) → key ≡ get_or keys i 0 → (j ≡ key % 2 ^ 16 → ⊥)
-    → HasKeyFrom keys i j → HasKeyFrom keys (i + 1) j
-key_later keys i j key read other (k, low, l, is) = elim (cases_eq k i) [
-  | inl same ↦ absurd (other (sym is ∙ ap (λ n. get_or keys n 0 % 2 ^ 16) same
-      ∙ ap (λ (m : ℕ). m % 2 ^ 16) (sym read)))
-  | inr more ↦ (k, omega (arith, low, more), l, is)
-]
-
--- the answer to the point of one key more
-pub told_by_key : {X A : Type 0} (f : X → A) (points : List X) (keys : List ℕ) (i n : ℕ)
-    (answers : List A) (key : ℕ) (p : X) (y : A)
-    → key ≡ get_or keys i 0 → key % 2 ^ 16 < length points → length answers ≡ length points
-    → y ≡ f (get_or points (key % 2 ^ 16) p) → AreToldOrKeyed f points keys i n answers
-    → AreToldOrKeyed f points keys (i + 1) n (set answers (key % 2 ^ 16) y)
-told_by_key f points keys i n answers key p y read within room told h =
-    let place : ℕ = key % 2 ^ 16 in
-    λ j d q l. elim (cases_eq j place) [
-      | inl same ↦ inl (ap (λ n. get_or (set answers place y) n d) same
-          ∙ get_or-set_same answers place y d (omega (arith, within, room)) ∙ told
-          ∙ ap f (get_or_default points place p q within
-          ∙ ap (λ n. get_or points n q) (sym same)))
-      | inr other ↦ elim (h j d q l) [
-        | inl was ↦ inl (get_or-set_other answers place j y d other ∙ was)
-        | inr there ↦ inr (key_later keys i j key read other there)
-      ]
-    ]
-
 -- with no key left all are answered
 pub all_told : (f : PointNm → PointAnswer) (points : List PointNm) (keys : List ℕ) (i n : ℕ)
     (answers : List PointAnswer) → length keys ≤ i → length points ≤ n
