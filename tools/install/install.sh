@@ -135,9 +135,9 @@ tell() {
     line 'include/octofix.h, .hpp' 'its headers for C and C++, and octofix_octree.hpp'
     line "lib/pkgconfig/octofix$suffix.pc" "pkg-config --cflags --libs octofix$suffix"
     line "lib/cmake/octofix$suffix" "find_package(octofix$suffix)"
-    line lib/python3/octofix "the Python package: export PYTHONPATH=$prefix/lib/python3"
+    line lib/python3/octofix "the Python package: export PYTHONPATH='$prefix/lib/python3'"
     [ "$how" = proved ] ||
-        line '' "with OCTOFIX_LIBRARY=$prefix/lib/liboctofix$suffix.so.1"
+        line '' "with OCTOFIX_LIBRARY='$prefix/lib/liboctofix$suffix.so.1'"
     line "bin/octofix$suffix" 'its tools'
     line 'share/man, share/doc/octofix' 'man pages, and documents'
     line 'share/bash-completion, share/zsh' 'completions of all words'
