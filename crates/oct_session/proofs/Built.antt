@@ -1,44 +1,60 @@
 -- How a build ends.
-use Rattle.std.proofs.Common.{◌≡◌, ℕ, List, true, false, Option, Some, None, IfSome, inl, inr, refl}
-use Rattle.std.proofs.Common.{sym, ap, subst, ◌∙◌, arith}
+use Rattle.std.proofs.Common.{◌≡◌, ℕ, List, true, false, Option, Some, None, IfSome, inl}
+use Rattle.std.proofs.Common.{inr, refl, sym, ap, subst, ◌∙◌, arith, Result, Ok, Err, OnOk, OnErr}
 use Rattle.oct_bt.specs.File.{bt_text}
 use Rattle.oct_io.specs.Taken.{IsCutOff}
 use Rattle.oct_tree.specs.Classes.{classes_in}
+use Rattle.oct_tree.specs.Tree.{Tree}
 use Rattle.oct_io.specs.Files.{Files}
 use Rattle.oct_io.specs.Told.{appended, Rose}
+use Rattle.oct_io.specs.Counts.{IsWriteCounted}
+use Rattle.oct_io.specs.Stops.{status_written}
+use Rattle.oct_io.specs.declared.sink.Sink as sink
+use Rattle.oct_io.specs.declared.sink.SinkFault.{SinkFault}
+use Rattle.oct_io.specs.declared.sink.SinkFault.TheVariants as sink_fault
+use Rattle.oct_io.specs.declared.source.Source as source
+use Rattle.oct_io.specs.declared.store.Store as store
+use Rattle.oct_map.specs.Map.{Map}
 use Rattle.oct_io.proofs.Appending.{appended_nil}
 use Rattle.oct_session.specs.Building as built
 use Rattle.oct_session.specs.Building.{last_state, text_built, build, has_ended, EndsWriting}
-use Rattle.oct_session.specs.Building.{HasBuiltAs, RunsOut}
+use Rattle.oct_session.specs.Building.{HasBuiltAs, RunsOut, IsUnasked}
 use Rattle.oct_session.specs.Ending as script
 use Rattle.oct_io.specs.Answer.{IsAnswered, answer_of}
 use Rattle.oct_session.specs.Ending.{IsReadToEnd}
 use Rattle.oct_io.specs.Whole.{IsWhole}
 use Rattle.oct_session.specs.FileCommands.{classes_file}
 use Rattle.oct_session.specs.Leaving as lent
-use Rattle.oct_session.specs.Leaving.{Desk, IsLikeAfter}
+use Rattle.oct_session.specs.Leaving.{Desk, IsLikeAfter, StandsForSome, RunsScript}
 use Rattle.oct_session.specs.Session.{Progress, last_progress, session, ReadsTold}
 use Rattle.oct_session.specs.Setup.{Setup}
 use Rattle.oct_io.specs.declared.status.Status.{Status}
 use Rattle.oct_io.specs.declared.status.Status.TheVariants as status
 use Rattle.oct_session.proofs.Loading.{same_file}
+use Rattle.oct_session.proofs.Serving.{IsCalm, calm_done, calm_refused}
+
+-- what holds of both statuses of a script that has ended holds of its status
+if_ended : (P : Status → Type 0) (ended : Status) → has_ended ended ≡ true → P status.Done
+    → P status.Refused → P ended
+if_ended P status.Done over done refused = done
+if_ended P status.Refused over done refused = refused
+if_ended P status.Usage over done refused = cc
+if_ended P status.BadFile over done refused = cc
+if_ended P status.TooLong over done refused = cc
+if_ended P status.ReadFault over done refused = cc
+if_ended P status.WriteFault over done refused = cc
+if_ended P status.Memory over done refused = cc
+if_ended P status.StoreFault over done refused = cc
 
 -- the text of a build whose script has ended
 text_of_build : (o : Setup) (files : Option Files) (bytes : List ℕ) (ended : Status)
     → has_ended ended ≡ true → (session o files bytes).status ≡ ended
     → (build o files bytes).text ≡ classes_file (last_state o files bytes)
 unfolding build
-text_of_build o files bytes status.Done over same =
+text_of_build o files bytes ended over same =
     ap (text_built (classes_file (last_state o files bytes))) same
-text_of_build o files bytes status.Refused over same =
-    ap (text_built (classes_file (last_state o files bytes))) same
-text_of_build o files bytes status.Usage ended same = cc
-text_of_build o files bytes status.BadFile ended same = cc
-text_of_build o files bytes status.TooLong ended same = cc
-text_of_build o files bytes status.ReadFault ended same = cc
-text_of_build o files bytes status.WriteFault ended same = cc
-text_of_build o files bytes status.Memory ended same = cc
-text_of_build o files bytes status.StoreFault ended same = cc
+    ∙ if_ended (λ a. text_built (classes_file (last_state o files bytes)) a
+    ≡ classes_file (last_state o files bytes)) ended over refl refl
 
 status_of_build : (o : Setup) (files : Option Files) (bytes : List ℕ)
     → (build o files bytes).status ≡ (session o files bytes).status
@@ -61,17 +77,12 @@ has_done : (o : Setup) (files : Option Files) (bytes : List ℕ) (left : Option 
     (ended : Status) → has_ended ended ≡ true → script.MayEnd o files bytes left None None ended
     → lent.Leaves o files bytes left None None d (Rose 0 0) ended
     → HasDone o files bytes left d ended
-has_done o files bytes left d status.Done over ends leaves =
-    record { same = ends.0.same_status; end = ends.1; like = leaves }
-has_done o files bytes left d status.Refused over ends leaves =
-    record { same = ends.0.same_status; end = ends.1; like = leaves }
-has_done o files bytes left d status.Usage over ends leaves = absurd ends
-has_done o files bytes left d status.BadFile over ends leaves = absurd ends
-has_done o files bytes left d status.TooLong over ends leaves = cc
-has_done o files bytes left d status.ReadFault over ends leaves = cc
-has_done o files bytes left d status.WriteFault over ends leaves = cc
-has_done o files bytes left d status.Memory over ends leaves = cc
-has_done o files bytes left d status.StoreFault over ends leaves = cc
+has_done o files bytes left d ended over = if_ended
+    (λ a. script.MayEnd o files bytes left None None a
+    → lent.Leaves o files bytes left None None d (Rose 0 0) a → HasDone o files bytes left d a)
+    ended over
+    (λ ends leaves. record { same = ends.0.same_status; end = ends.1; like = leaves })
+    (λ ends leaves. record { same = ends.0.same_status; end = ends.1; like = leaves })
 
 -- how a build ended, what it left, and that both are of one moment where memory ran out
 abbrev HasStopped : Setup → Option Files → List ℕ → Option (List ℕ) → Option (List ℕ)
@@ -140,18 +151,6 @@ BuildEnds o files left after v u d result =
     IfSome left (λ bytes. ReadsTold o files bytes
     → HasBuiltAs o files bytes after v u d result)
 
--- a script that has ended was answered whole
-whole_ended : (ended : Status) → has_ended ended ≡ true → IsWhole ended
-whole_ended status.Done over = tt
-whole_ended status.Refused over = tt
-whole_ended status.Usage over = tt
-whole_ended status.BadFile over = tt
-whole_ended status.TooLong over = tt
-whole_ended status.ReadFault over = cc
-whole_ended status.WriteFault over = cc
-whole_ended status.Memory over = cc
-whole_ended status.StoreFault over = cc
-
 -- a build that ends so beside its script, which was answered whole where the build was
 built_as : (o : Setup) (files : Option Files) (bytes : List ℕ) (left v u : Option (List ℕ))
     (d : Desk) (ended result : Status) → (IsWhole result → IsWhole ended)
@@ -176,7 +175,7 @@ written_ends o files None after v u d ended result over served writes = tt
 written_ends o files (Some bytes) after v u d ended result over served writes = λ told.
     let at = served told in
     let done = has_done o files bytes after d ended over at.answer at.leaves in
-    built_as o files bytes after v u d ended result (λ all. whole_ended ended over) at
+    built_as o files bytes after v u d ended result (λ all. if_ended IsWhole ended over tt tt) at
     (build_ends o files bytes after v u d ended result
     (bt_text d.map.tree.res (classes_in d.map.tree)) over done
     (same_file d.map (last_state o files bytes) done.like.stands
@@ -278,3 +277,137 @@ unwritten_ends o files (Some bytes) after v u d ended going calm unwritten serve
     let at = served told in
     built_as o files bytes after v u d ended ended (λ all. all) at
     (stopped_ends o files bytes after v u d ended going calm unwritten at.answer at.leaves)
+
+-- the writing of a map's file after a script that has ended, by how it went
+by_writing : {T : Type 0} (text : List ℕ) (r : Result T SinkFault) (v u : Option (List ℕ))
+    (ended : Status) → has_ended ended ≡ true → OnOk r (u ≡ appended v text)
+    → OnErr r (IsCutOff v u text) → EndsWriting text v u ended (status_written ended r)
+by_writing text (Ok x) v u ended over written cut =
+    if_ended (λ a. EndsWriting text v u a a) ended over (refl, written) (refl, written)
+by_writing text (Err sink_fault.Failed) v u ended over written cut = cut
+by_writing text (Err sink_fault.Memory) v u ended over written cut = cut
+
+pub writing_ends : {T : Type 0} (m : Map) (tree : Tree) (r : Result T SinkFault)
+    (v u : Option (List ℕ)) (ended result : Status) → has_ended ended ≡ true → tree ≡ m.tree
+    → result ≡ status_written ended r
+    → OnOk r (u ≡ appended v (bt_text tree.res (classes_in tree)))
+    → OnErr r (IsCutOff v u (bt_text tree.res (classes_in tree)))
+    → EndsWriting (bt_text m.tree.res (classes_in m.tree)) v u ended result
+writing_ends m tree r v u ended result over same is written cut =
+    subst (λ (t : Tree). EndsWriting (bt_text t.res (classes_in t)) v u ended result) same
+    (subst (λ a. EndsWriting (bt_text tree.res (classes_in tree)) v u ended a) (sym is)
+    (by_writing (bt_text tree.res (classes_in tree)) r v u ended over written cut))
+
+-- the sink of a build is asked where the script has ended, or memory ran out
+by_asking : {T : Type 0} (r : Result T SinkFault) (ended : Status) (same : Type 0)
+    → has_ended ended ≡ true → IsUnasked (status_written ended r) same
+by_asking (Ok x) ended same over = if_ended (λ a. IsUnasked a same) ended over
+    (record { too_long = λ is. cc; unread = λ is. cc; unstored = λ is. cc })
+    (record { too_long = λ is. cc; unread = λ is. cc; unstored = λ is. cc })
+by_asking (Err sink_fault.Failed) ended same over =
+    record { too_long = λ is. cc; unread = λ is. cc; unstored = λ is. cc }
+by_asking (Err sink_fault.Memory) ended same over =
+    record { too_long = λ is. cc; unread = λ is. cc; unstored = λ is. cc }
+
+pub writing_asks : {T : Type 0} (r : Result T SinkFault) (ended result : Status) (same : Type 0)
+    → has_ended ended ≡ true → result ≡ status_written ended r → IsUnasked result same
+writing_asks r ended result same over is =
+    subst (λ a. IsUnasked a same) (sym is) (by_asking r ended same over)
+
+-- ---- whatever is told
+
+-- a script that has ended, whose file is then written, or a part of it
+by_counting : {S K H F T : Type 0} (sources : source.Ghosts S) (sinks : sink.Ghosts K)
+    (silent : sink.Ghosts H) (stores : store.Ghosts F) (o : Setup) (m : Map) (s t : S) (x y : K)
+    (u v : H) (d e : F) (r : Result T SinkFault) (ended : Status) → IsCalm ended
+    → RunsScript sources silent stores o m s t u v d e ended
+    → IsWriteCounted r (sinks.faults x) (sinks.faults y) (sinks.shortages x) (sinks.shortages y)
+    → RunsScript sources sinks stores o m s t x y d e (status_written ended r)
+by_counting sources sinks silent stores o m s t x y u v d e (Ok z) ended calm runs wrote = record {
+  stands = runs.stands;
+  usage = calm.usage;
+  bad_file = calm.bad_file;
+  source_counts = runs.source_counts;
+  sink_counts = record {
+    write_fault = λ is. absurd (calm.written is);
+    no_write_fault = λ other. wrote.stays.0;
+    memory = λ is. absurd (calm.memory is);
+    no_shortage = λ other. wrote.stays.1;
+  };
+  store_counts = runs.store_counts;
+  complete = λ reads writes files memory. calm.whole;
+}
+by_counting sources sinks silent stores o m s t x y u v d e (Err sink_fault.Failed) ended calm runs wrote = record {
+  stands = runs.stands;
+  usage = λ is. cc;
+  bad_file = λ is. cc;
+  source_counts = record {
+    read_fault = λ is. cc;
+    no_read_fault = λ other. runs.source_counts.no_read_fault calm.read;
+    few_ends = runs.source_counts.few_ends;
+  };
+  sink_counts = record {
+    write_fault = λ is. (wrote.failed refl).0;
+    no_write_fault = λ other. absurd (other refl);
+    memory = λ is. cc;
+    no_shortage = λ other. (wrote.failed refl).1;
+  };
+  store_counts = record {
+    store_fault = λ is. cc;
+    no_store_fault = λ other. runs.store_counts.no_store_fault calm.stored;
+  };
+  complete = λ reads writes files memory. absurd (writes (wrote.failed refl).0);
+}
+by_counting sources sinks silent stores o m s t x y u v d e (Err sink_fault.Memory) ended calm runs wrote = record {
+  stands = runs.stands;
+  usage = λ is. cc;
+  bad_file = λ is. cc;
+  source_counts = record {
+    read_fault = λ is. cc;
+    no_read_fault = λ other. runs.source_counts.no_read_fault calm.read;
+    few_ends = runs.source_counts.few_ends;
+  };
+  sink_counts = record {
+    write_fault = λ is. cc;
+    no_write_fault = λ other. (wrote.memory refl).0;
+    memory = λ is. inr (wrote.memory refl).1;
+    no_shortage = λ other. absurd (other refl);
+  };
+  store_counts = record {
+    store_fault = λ is. cc;
+    no_store_fault = λ other. runs.store_counts.no_store_fault calm.stored;
+  };
+  complete = λ reads writes files memory. absurd (memory refl);
+}
+
+pub writing_runs : {S K H F T : Type 0} (sources : source.Ghosts S) (sinks : sink.Ghosts K)
+    (silent : sink.Ghosts H) (stores : store.Ghosts F) (o : Setup) (m : Map) (s t : S) (x y : K)
+    (u v : H) (d e : F) (r : Result T SinkFault) (ended result : Status) → has_ended ended ≡ true
+    → result ≡ status_written ended r → RunsScript sources silent stores o m s t u v d e ended
+    → IsWriteCounted r (sinks.faults x) (sinks.faults y) (sinks.shortages x) (sinks.shortages y)
+    → RunsScript sources sinks stores o m s t x y d e result
+writing_runs sources sinks silent stores o m s t x y u v d e r ended result over is runs wrote =
+    subst (λ a. RunsScript sources sinks stores o m s t x y d e a) (sym is)
+    (by_counting sources sinks silent stores o m s t x y u v d e r ended
+    (if_ended IsCalm ended over calm_done calm_refused) runs wrote)
+
+-- or the script hasn't ended, and the sink isn't asked
+pub unwritten_runs : {S K H F : Type 0} (sources : source.Ghosts S) (sinks : sink.Ghosts K)
+    (silent : sink.Ghosts H) (stores : store.Ghosts F) (o : Setup) (m : Map) (s t : S) (x : K)
+    (u v : H) (d e : F) (ended : Status) → ¬ Rose (silent.faults u) (silent.faults v)
+    → RunsScript sources silent stores o m s t u v d e ended
+    → RunsScript sources sinks stores o m s t x x d e ended
+unwritten_runs sources sinks silent stores o m s t x u v d e ended calm runs = record {
+  stands = runs.stands;
+  usage = runs.usage;
+  bad_file = runs.bad_file;
+  source_counts = runs.source_counts;
+  sink_counts = record {
+    write_fault = λ is. absurd (calm (runs.sink_counts.write_fault is));
+    no_write_fault = λ other. refl;
+    memory = λ is. inl refl;
+    no_shortage = λ other. refl;
+  };
+  store_counts = runs.store_counts;
+  complete = λ reads writes files memory. runs.complete reads calm files memory;
+}

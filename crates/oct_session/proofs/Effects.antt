@@ -24,7 +24,7 @@ use Rattle.oct_session.specs.declared.kinds.Rest.TheVariants as rest
 use Rattle.oct_session.specs.declared.lent.Lent.{Lent}
 use Rattle.oct_session.specs.declared.lines.Parsed.{Parsed}
 use Rattle.oct_session.specs.declared.session.Session.{Session}
-use Rattle.oct_session.specs.Moments.{Works, HasParsed}
+use Rattle.oct_session.specs.Moments.{Works, UsesFile, HasParsed}
 use Rattle.oct_session.specs.Parsed.{command_in, TellsOpening}
 use Rattle.oct_session.specs.Commands.{FileWork, Saving, command_on, is_quit, asked_of}
 use Rattle.oct_session.specs.Commands.{kind_work, verb_work, file_named, asks_for}
@@ -46,7 +46,7 @@ use Rattle.oct_session.specs.Session.{after_line}
 use Rattle.oct_session.specs.Setup.{Setup}
 use Rattle.oct_session.specs.Tally.{capped, counted as count_reply}
 use Rattle.oct_session.specs.declared.tally.Tally.{Tally}
-use Rattle.oct_session.specs.Standing.{with_reply, KeepsStanding, HasAnswered, HasDone, HasUsed}
+use Rattle.oct_session.specs.Standing.{with_reply, KeepsStanding, HasAnswered, HasDone}
 use Rattle.oct_session.specs.Standing.{HasScanned, HasWorked, FindsTold, TakesEffect, HasEffect}
 use Rattle.oct_session.specs.Standing.{HasFailed, TakesMemory, StandsBeside, IsInStep}
 use Rattle.oct_session.specs.Standing.{IsBetween, FailsLine}
@@ -323,36 +323,47 @@ head_opened m n f number head block a is done = λ files s finds at. (
   record { stands = stands_still m n a done s at.stands; told = at.told },
 )
 
--- a verb with the name of a file had its effect where no block is open
-verb_taken : (r : Result (Option Reply) StoreFault) (m l n : Map) (f g : Option Files)
-    (verb : FileVerb) (name : List ℕ) → ((s : State) → StandsFor m s → StandsFor l s)
-    → HasUsed verb name l f n g r → HasUsed verb name m f n g r
-verb_taken (Ok b) m l n f g verb name kept used = λ files s finds at.
-    used files s finds (record { stands = kept s at.stands; told = at.told })
-verb_taken (Err x) m l n f g verb name kept used = λ files s finds at.
-    used files s finds (record { stands = kept s at.stands; told = at.told })
+-- something had its effect on a map that stands for what another map stands for
+effect_before : (e : Option Files → State → Effect) (w : Option FileWork)
+    (r : Result (Option Reply) StoreFault) (m l n : Map) (f g : Option Files)
+    → ((s : State) → StandsFor m s → StandsFor l s)
+    → HasEffect e w None l f n g None r → HasEffect e w None m f n g None r
+effect_before e w (Ok b) m l n f g kept took = λ files s finds at.
+    took files s finds (record { stands = kept s at.stands; told = at.told })
+effect_before e w (Err x) m l n f g kept took = λ files s finds at.
+    took files s finds (record { stands = kept s at.stands; told = at.told })
 
-pub verb_used : (r : Result (Option Reply) StoreFault) (m l n : Map) (f g : Option Files)
-    (number : ℕ) (verb : FileVerb) (name : List ℕ) (block : Option ScanBlock) (a : Option Reply)
-    → block ≡ None → HasPart (Names verb name) m l a → HasUsed verb name l f n g r
-    → HasEffect (KindEffect number (Names verb name)) (Some (verb_work verb name)) None m f n g
-    block r
-verb_used r m l n f g number verb name block a closed done used =
+-- a verb with the name of a file had its effect where no block is open
+pub verb_used : {K F T : Type 0} (ghosts : store.Ghosts F) (m : Map) (f : Option Files)
+    (l e : Lent K F) (r : Result T StoreFault) (number : ℕ) (verb : FileVerb) (name : List ℕ)
+    (block : Option ScanBlock) (a b : Option Reply) → block ≡ None
+    → HasPart (Names verb name) m l.map.now a → f ≡ ghosts.files l.store.now
+    → UsesFile ghosts verb name l e r b
+    → HasEffect (KindEffect number (Names verb name)) (Some (verb_work verb name)) None m f
+    e.map.now (ghosts.files e.store.now) block (with_reply r b)
+verb_used ghosts m f l e r number verb name block a b closed done same used =
     subst (λ x. HasEffect (λ files s. effect_of_kind files s (Names verb name))
-    (Some (verb_work verb name)) None m f n g x r) (sym closed)
-    (verb_taken r m l n f g verb name (stands_still m l a done) used)
+    (Some (verb_work verb name)) None m f e.map.now (ghosts.files e.store.now) x (with_reply r b))
+    (sym closed)
+    (subst (λ x. HasEffect (λ files s. effect_of_kind files s (Names verb name))
+    (Some (verb_work verb name)) None m x e.map.now (ghosts.files e.store.now) None
+    (with_reply r b)) (sym same)
+    (effect_before (λ files s. effect_of_kind files s (Names verb name))
+    (Some (verb_work verb name)) (with_reply r b) m l.map.now e.map.now
+    (ghosts.files l.store.now) (ghosts.files e.store.now)
+    (stands_still m l.map.now a done) used.took))
 
 -- a map that had its part stands for some history, as before
 pub some_part : {E : Type 0} (r : Result (Option Reply) E) (m n : Map) (k : Kind)
     → HasDone (λ s. map_reply s k) (λ s. map_action k) m n r → KeepsStanding m n
 some_part r m n k done = stands_where_done r m n (λ s. map_reply s k) (λ s. map_action k) done
 
--- and so it had where another verb was read that is the same
-pub used_as : (r : Result (Option Reply) StoreFault) (m n : Map) (f g : Option Files)
-    (verb read : FileVerb) (name : List ℕ) → verb ≡ read → HasUsed read name m f n g r
-    → HasUsed verb name m f n g r
-used_as r m n f g verb read name is used =
-    subst (λ x. HasUsed x name m f n g r) (sym is) used
+-- a call does what a verb says where it does what another one says that is the same
+pub used_as : {K F T : Type 0} (ghosts : store.Ghosts F) (d e : Lent K F)
+    (r : Result T StoreFault) (a : Option Reply) (verb read : FileVerb) (name : List ℕ)
+    → verb ≡ read → UsesFile ghosts read name d e r a → UsesFile ghosts verb name d e r a
+used_as ghosts d e r a verb read name is used =
+    subst (λ x. UsesFile ghosts x name d e r a) (sym is) used
 
 -- a call that does a command outside a block does what does it
 pub works_by_kind : {K F T : Type 0} (ghosts : store.Ghosts F) (d e : Lent K F)
@@ -371,6 +382,24 @@ unasked store calls asks = record { unasked = λ none. refl; few = omega arith }
 -- and fails for nothing where the call ends well, or where memory runs out
 pub well_counted : {T : Type 0} (x : T) (k : ℕ) → IsAskCounted {T = T} (Ok x) k k
 well_counted x k = record { stays = refl; failed = λ is. cc; memory = λ is. cc }
+
+pub counted_done : {A B : Type 0} (x : A) (y : B) (j k : ℕ) → IsAskCounted (Ok x) j k
+    → IsAskCounted (Ok y) j k
+counted_done x y j k counted =
+    record { stays = counted.stays; failed = λ is. cc; memory = λ is. cc }
+
+counted_alike : {A B : Type 0} (fault : StoreFault) (j k : ℕ) → IsAskCounted {T = B} (Err fault) j k
+    → IsAskCounted {T = A} (Err fault) j k
+counted_alike store_fault.Failed j k counted =
+    record { stays = tt; failed = λ is. counted.failed refl; memory = λ is. cc }
+counted_alike store_fault.Memory j k counted =
+    record { stays = tt; failed = λ is. cc; memory = λ is. counted.memory refl }
+
+pub counted_on : {A B : Type 0} (r : Result A StoreFault) (fault : StoreFault) (j k : ℕ)
+    → IsErrAnd r (λ x. x ≡ fault) → IsAskCounted {T = B} (Err fault) j k → IsAskCounted r j k
+counted_on (Ok x) fault j k is counted = absurd is
+counted_on {A = A} (Err x) fault j k is counted =
+    subst (λ a. IsAskCounted {T = A} (Err a) j k) (sym is) (counted_alike fault j k counted)
 
 pub ran_out : {T : Type 0} (r : Result T StoreFault) (j k : ℕ)
     → IsErrAnd r (λ x. x ≡ store_fault.Memory) → k ≡ j → IsAskCounted r j k

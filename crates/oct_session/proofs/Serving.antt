@@ -1,17 +1,24 @@
 -- How the calls end that serve a script, whatever store a desk began with.
 use Rattle.std.proofs.Common.{◌≡◌, ℕ, ◌+◌, ◌≤◌, List, [], length, take, true, false, Option}
-use Rattle.std.proofs.Common.{Some, None, IfSome, sym}
-use Rattle.std.proofs.Common.{subst}
+use Rattle.std.proofs.Common.{Some, None, IfSome, Result, Ok, Err, Bool, refl, sym, subst}
+use Rattle.std.specs.Prelude.{◌≢◌}
+use Rattle.oct_io.specs.FaultCounts.{IsScriptCounted}
 use Rattle.oct_io.specs.Files.{Files}
 use Rattle.oct_io.specs.Told.{Rose}
 use Rattle.oct_map.specs.Map.{Map}
+use Rattle.oct_io.specs.Whole.{IsWhole}
 use Rattle.oct_io.specs.declared.status.Status.{Status}
+use Rattle.oct_io.specs.declared.status.Status.TheVariants as status
 use Rattle.oct_io.specs.declared.stop.Stop.{Stop}
+use Rattle.oct_io.specs.declared.stop.Stop.TheVariants as stop
 use Rattle.oct_io.specs.declared.stop.Stop.TheVariants.{ReadFault}
 use Rattle.oct_session.specs.declared.session.Session.{Session}
 use Rattle.oct_io.specs.Shelf.{Shelf, shelf}
 use Rattle.oct_io.specs.declared.sink.Sink as sink
-use Rattle.oct_session.specs.Leaving.{Desk, desk, HasEndedAs}
+use Rattle.oct_io.specs.declared.source.Source as source
+use Rattle.oct_io.specs.declared.store.Store as store
+use Rattle.oct_session.specs.Leaving.{Desk, desk, StandsForSome, HasEndedAs, RunsScript}
+use Rattle.oct_session.specs.Moments.{AreCounted}
 use Rattle.oct_session.specs.Session.{closed, status_at_end, ReadsTold}
 use Rattle.oct_session.specs.Setup.{Setup}
 use Rattle.oct_session.specs.Standing.{seated, Takes, StopsIn, Reaches, HaltsAtEnd, Serves}
@@ -149,3 +156,204 @@ ends_back ghosts files calls o told left after first old m n s t x y status map 
     (subst (λ a. EndsOver o told left after (ghosts.written old) (ghosts.written a)
     (desk m (shelf files calls first s)) (Rose (ghosts.shortages old) (ghosts.shortages a)) status)
     sinks ends))
+
+-- ---- whatever is told
+
+-- a status that names no fault, and comes with the whole answer
+pub record IsCalm (ended : Status) : Type 0 where
+  pub read : ended ≢ status.ReadFault
+  pub written : ended ≢ status.WriteFault
+  pub memory : ended ≢ status.Memory
+  pub stored : ended ≢ status.StoreFault
+  pub usage : ended ≢ status.Usage
+  pub bad_file : ended ≢ status.BadFile
+  pub whole : IsWhole ended
+
+pub calm_done : IsCalm status.Done
+calm_done = record {
+  read = λ is. cc;
+  written = λ is. cc;
+  memory = λ is. cc;
+  stored = λ is. cc;
+  usage = λ is. cc;
+  bad_file = λ is. cc;
+  whole = tt;
+}
+
+pub calm_refused : IsCalm status.Refused
+calm_refused = record {
+  read = λ is. cc;
+  written = λ is. cc;
+  memory = λ is. cc;
+  stored = λ is. cc;
+  usage = λ is. cc;
+  bad_file = λ is. cc;
+  whole = tt;
+}
+
+calm_long : IsCalm status.TooLong
+calm_long = record {
+  read = λ is. cc;
+  written = λ is. cc;
+  memory = λ is. cc;
+  stored = λ is. cc;
+  usage = λ is. cc;
+  bad_file = λ is. cc;
+  whole = tt;
+}
+
+-- a script with such a status, where no count rose
+calm_counted : {S K F T : Type 0} (sources : source.Ghosts S) (sinks : sink.Ghosts K)
+    (stores : store.Ghosts F) (o : Setup) (m : Map) (s t : S) (x y : K) (d e : F)
+    (r : Result T Stop) (ended : Status) → IsCalm ended → StandsForSome o m
+    → r ≢ Err stop.ReadFault
+    → IsScriptCounted r (sources.faults s) (sources.faults t) (sources.ends s) (sources.ends t)
+    → AreCounted None (sinks.faults x) (sinks.faults y) (sinks.shortages x) (sinks.shortages y)
+    (stores.faults d) (stores.faults e)
+    → RunsScript sources sinks stores o m s t x y d e ended
+calm_counted sources sinks stores o m s t x y d e r ended calm stands read input counted =
+    record {
+      stands = stands;
+      usage = calm.usage;
+      bad_file = calm.bad_file;
+      source_counts = record {
+        read_fault = λ is. absurd (calm.read is);
+        no_read_fault = λ other. input.no_read_fault read;
+        few_ends = input.few_ends;
+      };
+      sink_counts = record {
+        write_fault = λ is. absurd (calm.written is);
+        no_write_fault = λ other. counted.0;
+        memory = λ is. absurd (calm.memory is);
+        no_shortage = λ other. counted.1;
+      };
+      store_counts = record {
+        store_fault = λ is. absurd (calm.stored is);
+        no_store_fault = λ other. counted.2;
+      };
+      complete = λ reads writes files memory. calm.whole;
+    }
+
+-- a session that has read its script
+pub runs_read : {S K F T : Type 0} (sources : source.Ghosts S) (sinks : sink.Ghosts K)
+    (stores : store.Ghosts F) (o : Setup) (m : Map) (s t : S) (x y : K) (d e : F) (v : T)
+    (refused : Bool) (ended : Status) → ended ≡ status_at_end refused → StandsForSome o m
+    → IsScriptCounted {T = T} (Ok v) (sources.faults s) (sources.faults t) (sources.ends s)
+    (sources.ends t)
+    → AreCounted None (sinks.faults x) (sinks.faults y) (sinks.shortages x) (sinks.shortages y)
+    (stores.faults d) (stores.faults e)
+    → RunsScript sources sinks stores o m s t x y d e ended
+runs_read sources sinks stores o m s t x y d e v refused ended is stands input counted =
+    calm_counted sources sinks stores o m s t x y d e (Ok v) ended
+    (subst IsCalm (sym is) (elim refused as (λ b. IsCalm (status_at_end b)) [
+      | true ↦ calm_refused
+      | false ↦ calm_done
+    ])) stands (λ same. cc) input counted
+
+-- or that was stopped
+by_stop : {S K F T : Type 0} (sources : source.Ghosts S) (sinks : sink.Ghosts K)
+    (stores : store.Ghosts F) (o : Setup) (m : Map) (s t : S) (x y : K) (d e : F) (why : Stop)
+    → StandsForSome o m
+    → IsScriptCounted {T = T} (Err why) (sources.faults s) (sources.faults t) (sources.ends s)
+    (sources.ends t)
+    → AreCounted (Some why) (sinks.faults x) (sinks.faults y) (sinks.shortages x)
+    (sinks.shortages y) (stores.faults d) (stores.faults e)
+    → RunsScript sources sinks stores o m s t x y d e (status_of why)
+by_stop {T = T} sources sinks stores o m s t x y d e stop.TooLong stands input counted =
+    calm_counted {T = T} sources sinks stores o m s t x y d e (Err stop.TooLong) status.TooLong
+    calm_long stands (λ same. cc) input counted
+by_stop sources sinks stores o m s t x y d e stop.ReadFault stands input counted = record {
+  stands = stands;
+  usage = λ is. cc;
+  bad_file = λ is. cc;
+  source_counts = record {
+    read_fault = λ is. input.read_fault refl;
+    no_read_fault = λ other. absurd (other refl);
+    few_ends = input.few_ends;
+  };
+  sink_counts = record {
+    write_fault = λ is. cc;
+    no_write_fault = λ other. counted.0;
+    memory = λ is. cc;
+    no_shortage = λ other. counted.1;
+  };
+  store_counts = record { store_fault = λ is. cc; no_store_fault = λ other. counted.2 };
+  complete = λ reads writes files memory. absurd (reads (input.read_fault refl));
+}
+by_stop sources sinks stores o m s t x y d e stop.WriteFault stands input counted = record {
+  stands = stands;
+  usage = λ is. cc;
+  bad_file = λ is. cc;
+  source_counts = record {
+    read_fault = λ is. cc;
+    no_read_fault = λ other. input.no_read_fault (λ same. cc);
+    few_ends = input.few_ends;
+  };
+  sink_counts = record {
+    write_fault = λ is. counted.0;
+    no_write_fault = λ other. absurd (other refl);
+    memory = λ is. cc;
+    no_shortage = λ other. counted.1;
+  };
+  store_counts = record { store_fault = λ is. cc; no_store_fault = λ other. counted.2 };
+  complete = λ reads writes files memory. absurd (writes counted.0);
+}
+by_stop sources sinks stores o m s t x y d e stop.Memory stands input counted = record {
+  stands = stands;
+  usage = λ is. cc;
+  bad_file = λ is. cc;
+  source_counts = record {
+    read_fault = λ is. cc;
+    no_read_fault = λ other. input.no_read_fault (λ same. cc);
+    few_ends = input.few_ends;
+  };
+  sink_counts = record {
+    write_fault = λ is. cc;
+    no_write_fault = λ other. counted.0;
+    memory = λ is. counted.1;
+    no_shortage = λ other. absurd (other refl);
+  };
+  store_counts = record { store_fault = λ is. cc; no_store_fault = λ other. counted.2 };
+  complete = λ reads writes files memory. absurd (memory refl);
+}
+by_stop sources sinks stores o m s t x y d e stop.StoreFault stands input counted = record {
+  stands = stands;
+  usage = λ is. cc;
+  bad_file = λ is. cc;
+  source_counts = record {
+    read_fault = λ is. cc;
+    no_read_fault = λ other. input.no_read_fault (λ same. cc);
+    few_ends = input.few_ends;
+  };
+  sink_counts = record {
+    write_fault = λ is. cc;
+    no_write_fault = λ other. counted.0;
+    memory = λ is. cc;
+    no_shortage = λ other. counted.1;
+  };
+  store_counts = record { store_fault = λ is. counted.2; no_store_fault = λ other. absurd (other refl) };
+  complete = λ reads writes files memory. absurd (files counted.2);
+}
+
+pub runs_stopped : {S K F T : Type 0} (sources : source.Ghosts S) (sinks : sink.Ghosts K)
+    (stores : store.Ghosts F) (o : Setup) (m : Map) (s t : S) (x y : K) (d e : F) (why : Stop)
+    (ended : Status) → ended ≡ status_of why → StandsForSome o m
+    → IsScriptCounted {T = T} (Err why) (sources.faults s) (sources.faults t) (sources.ends s)
+    (sources.ends t)
+    → AreCounted (Some why) (sinks.faults x) (sinks.faults y) (sinks.shortages x)
+    (sinks.shortages y) (stores.faults d) (stores.faults e)
+    → RunsScript sources sinks stores o m s t x y d e ended
+runs_stopped sources sinks stores o m s t x y d e why ended is stands input counted =
+    subst (λ a. RunsScript sources sinks stores o m s t x y d e a) (sym is)
+    (by_stop sources sinks stores o m s t x y d e why stands input counted)
+
+-- the same, of what was lent and has come back
+pub runs_back : {S K F : Type 0} (sources : source.Ghosts S) (sinks : sink.Ghosts K)
+    (stores : store.Ghosts F) (o : Setup) (m n : Map) (s t : S) (x y z : K) (d e f : F)
+    (status : Status) → m ≡ n → y ≡ z → e ≡ f
+    → RunsScript sources sinks stores o m s t x y d e status
+    → RunsScript sources sinks stores o n s t x z d f status
+runs_back sources sinks stores o m n s t x y z d e f status map to files runs =
+    subst (λ a. RunsScript sources sinks stores o a s t x z d f status) map
+    (subst (λ a. RunsScript sources sinks stores o m s t x a d f status) to
+    (subst (λ a. RunsScript sources sinks stores o m s t x y d a status) files runs))

@@ -4,12 +4,11 @@ use Rattle.std.proofs.Common.{None}
 use Rattle.std.proofs.Common.{refl, sym, ap, subst, ◌∙◌, arith, Result, Ok, Err, OnOk, IfSome}
 use Rattle.std.proofs.Common.{IsErrAnd, length, take, drop, true, false, true≢false}
 use Rattle.std.proofs.lemmas.List.{length-take, take_all}
-use Rattle.oct_io.specs.FaultCounts.{IsStopCounted}
 use Rattle.oct_io.specs.Stops.{IsHalt, status_of}
 use Rattle.oct_io.specs.Told.{Rose}
 use Rattle.oct_io.specs.declared.stop.Stop.{Stop}
 use Rattle.oct_io.specs.declared.stop.Stop.TheVariants as stop
-use Rattle.oct_session.specs.Moments.{Moment, IsCounted, IsDone, Makes, Take, End, stop_in, seat_at}
+use Rattle.oct_session.specs.Moments.{Moment, IsDone, Makes, Take, End, stop_in, seat_at}
 use Rattle.oct_session.specs.Moments.{TakesPiece, Reads, IsWaiting, HasRoom}
 use Rattle.oct_session.specs.Setup.{Setup}
 use Rattle.oct_session.specs.Standing.{Takes, Halts, IsFresh, IsResting, Serves, Finishes, Ends}
@@ -303,31 +302,3 @@ reads_end (Err why) o left after taken a b c few none done goes p = record {
   to = stopped_at_end why o left after _ _ _ a.desk b.desk c.desk a.session b.session taken _ _ _
       done.counted.1 few none goes p.to.0 (p.to.1 o);
 }
-
--- counts of faults beside a result
-none_counted : {F T : Type 0} (r : Result T Stop) (a b : Moment F) → IsCounted a b (stop_in r)
-    → OnOk r ((b.sink_faults ≡ a.sink_faults) × (b.shortages ≡ a.shortages)
-    × (b.store_faults ≡ a.store_faults))
-none_counted (Ok x) a b p = p
-none_counted (Err why) a b p = tt
-
-stop_counted : {F T : Type 0} (r : Result T Stop) (a b : Moment F) → IsCounted a b (stop_in r)
-    → IsStopCounted r a.sink_faults b.sink_faults a.shortages b.shortages a.store_faults
-    b.store_faults
-stop_counted r a b p =
-    let when : (why : Stop) → r ≡ Err why → IsCounted a b (Some why) =
-    λ why is. subst (λ x. IsCounted a b (stop_in x)) is p in
-    record {
-      stays = none_counted r a b p;
-      failed = λ is. when stop.WriteFault is;
-      memory = λ is. when stop.Memory is;
-      store_failed = λ is. when stop.StoreFault is;
-      too_long = λ is. when stop.TooLong is;
-      unread = λ is. when stop.ReadFault is;
-    }
-
-pub reads_counted : {F T : Type 0} (r : Result T Stop) (o : Setup) (left after : Option (List ℕ))
-    (a b : Moment F) → Reads o left after a b (stop_in r)
-    → IsStopCounted r a.sink_faults b.sink_faults a.shortages b.shortages a.store_faults
-    b.store_faults
-reads_counted r o left after a b p = stop_counted r a b p.done.counted

@@ -1,16 +1,15 @@
 -- What a session leaves of the map and the files that it was lent.
-use Rattle.std.specs.Prelude.{◌≡◌, ◌⊎◌, ℕ, ◌<◌, length, List, [], ◌∷◌, ◌++◌, take, true, false}
-use Rattle.std.specs.Prelude.{Option}
-use Rattle.std.specs.Prelude.{Some, None, IsSome}
+use Rattle.std.specs.Prelude.{◌≡◌, ◌≢◌, ◌⊎◌, ℕ, ◌<◌, length, List, [], ◌∷◌, ◌++◌, take, true, false}
+use Rattle.std.specs.Prelude.{Option, Some, None, IsSome}
 use Rattle.oct_io.specs.Files.{Files, KeepsOthers}
-use Rattle.oct_io.specs.Told.{appended}
+use Rattle.oct_io.specs.Told.{appended, Rose}
 use Rattle.oct_map.specs.Map.{Map, ground_of, values_of}
 use Rattle.oct_map.specs.Marks.{SameMark, marked_of}
 use Rattle.oct_script.specs.Lines.{Line, ended_lines}
 use Rattle.oct_key.specs.Values.{SameValues}
 use Rattle.oct_tree.specs.Shape.{IsPruned}
 use Rattle.oct_session.specs.Commands.{file_saved}
-use Rattle.oct_io.specs.FaultCounts.{IsAsked}
+use Rattle.oct_io.specs.FaultCounts.{IsAsked, IsSourceCounted, IsSinkCounted, IsStoreCounted}
 use Rattle.oct_io.specs.Shelf.{Shelf}
 use Rattle.oct_io.specs.Taken.{HasTaken}
 use Rattle.oct_session.specs.History.{History, State, state_after}
@@ -20,9 +19,13 @@ use Rattle.oct_session.specs.Session.{closed, is_too_long, lines_of, last_progre
 use Rattle.oct_session.specs.Ending.{MayEnd}
 use Rattle.oct_io.specs.Whole.{IsWhole}
 use Rattle.oct_session.specs.Setup.{Setup}
+use Rattle.oct_io.specs.declared.sink.Sink as sink
+use Rattle.oct_io.specs.declared.source.Source as source
 use Rattle.oct_io.specs.declared.status.Status.{Status}
 use Rattle.oct_io.specs.declared.status.Status.TheVariants.{Done, Refused, TooLong, ReadFault}
 use Rattle.oct_io.specs.declared.status.Status.TheVariants.{WriteFault, Memory, StoreFault}
+use Rattle.oct_io.specs.declared.status.Status.TheVariants.{Usage, BadFile}
+use Rattle.oct_io.specs.declared.store.Store as store
 
 -- the map stands for a state: each voxel has its value there, the map's answers read the same
 -- beside the values, it has the same mark, inner values may be out of date exactly where they may
@@ -176,3 +179,23 @@ pub record HasEndedAs (o : Setup) (files : Option Files) (bytes : List ℕ)
   pub leaves : Leaves o files bytes left old new d short status
   pub asked : HasAsked d (last_progress o files bytes).asks
   pub files_told : IsWhole status → d.store.files ≡ (session o files bytes).files
+
+-- whatever its source, sink and store tell, the map stands for some history, and the status is one
+-- that a script has; a fault is met once and ends the script: its count rises by one exactly where
+-- the status names it, and no other count changes; the end of the input is met once at most; and
+-- where no count rose the whole answer comes, or memory ran out
+pub record RunsScript {S K F : Type 0} (sources : source.Ghosts S) (sinks : sink.Ghosts K)
+    (stores : store.Ghosts F) (o : Setup) (map : Map) (from from_after : S) (to to_after : K)
+    (files files_after : F) (status : Status) : Type 0 where
+  pub stands : StandsForSome o map
+  pub usage : status ≢ Usage
+  pub bad_file : status ≢ BadFile
+  pub source_counts : IsSourceCounted status (sources.faults from) (sources.faults from_after)
+      (sources.ends from) (sources.ends from_after)
+  pub sink_counts : IsSinkCounted status (sinks.faults to) (sinks.faults to_after)
+      (sinks.shortages to) (sinks.shortages to_after)
+  pub store_counts : IsStoreCounted status (stores.faults files) (stores.faults files_after)
+  pub complete : ¬ Rose (sources.faults from) (sources.faults from_after)
+      → ¬ Rose (sinks.faults to) (sinks.faults to_after)
+      → ¬ Rose (stores.faults files) (stores.faults files_after) → status ≢ Memory
+      → IsWhole status

@@ -18,11 +18,14 @@ use Rattle.oct_io.specs.declared.store.StoreFault.{StoreFault}
 use Rattle.oct_map.specs.Map.{Map}
 use Rattle.oct_script.specs.Lines.{Line, ended_lines, all_lines}
 use Rattle.oct_script.specs.declared.reply.Reply.{Reply}
+use Rattle.oct_script.specs.declared.verbs.FileVerb.{FileVerb}
 use Rattle.oct_session.specs.Commands.{FileWork, command_on, may_change, named_in, asks_for}
+use Rattle.oct_session.specs.Commands.{verb_work}
 use Rattle.oct_session.specs.History.{State}
+use Rattle.oct_session.specs.Kinds.{Names}
 use Rattle.oct_session.specs.Leaving.{Desk}
 use Rattle.oct_session.specs.Parsed.{command_in, TellsOpening}
-use Rattle.oct_session.specs.Session.{Progress, Effect, closed}
+use Rattle.oct_session.specs.Session.{Progress, Effect, effect_of_kind, closed}
 use Rattle.oct_session.specs.Setup.{Setup}
 use Rattle.oct_session.specs.Standing.{with_reply, HasEffect}
 use Rattle.oct_session.specs.Standing.{Seat, seated, desk_of, KeepsStanding, Adds, HasMoved}
@@ -70,17 +73,25 @@ seat_at m = seated m.desk m.written
 
 -- ---- what holds of every call
 
--- no count of faults rose but that which the stop names
+-- no count of faults rose but that which the stop names: not that of the sink's failures, nor of
+-- its shortages of memory, nor of the store's failures
+abbrev pub AreCounted : Option Stop → ℕ → ℕ → ℕ → ℕ → ℕ → ℕ → Type 0
+AreCounted (Some stop.WriteFault) failures failures_after shortages shortages_after files
+    files_after =
+    Rose failures failures_after × (shortages_after ≡ shortages) × (files_after ≡ files)
+AreCounted (Some stop.Memory) failures failures_after shortages shortages_after files files_after =
+    (failures_after ≡ failures) × ((shortages_after ≡ shortages) ⊎ Rose shortages shortages_after)
+    × (files_after ≡ files)
+AreCounted (Some stop.StoreFault) failures failures_after shortages shortages_after files
+    files_after =
+    (failures_after ≡ failures) × (shortages_after ≡ shortages) × Rose files files_after
+AreCounted how failures failures_after shortages shortages_after files files_after =
+    (failures_after ≡ failures) × (shortages_after ≡ shortages) × (files_after ≡ files)
+
+-- so it is from one moment to another
 abbrev pub IsCounted : {F : Type 0} → Moment F → Moment F → Option Stop → Type 0
-IsCounted a b (Some stop.WriteFault) = Rose a.sink_faults b.sink_faults
-    × (b.shortages ≡ a.shortages) × (b.store_faults ≡ a.store_faults)
-IsCounted a b (Some stop.Memory) = (b.sink_faults ≡ a.sink_faults)
-    × ((b.shortages ≡ a.shortages) ⊎ Rose a.shortages b.shortages)
-    × (b.store_faults ≡ a.store_faults)
-IsCounted a b (Some stop.StoreFault) = (b.sink_faults ≡ a.sink_faults)
-    × (b.shortages ≡ a.shortages) × Rose a.store_faults b.store_faults
-IsCounted a b how = (b.sink_faults ≡ a.sink_faults) × (b.shortages ≡ a.shortages)
-    × (b.store_faults ≡ a.store_faults)
+IsCounted a b how = AreCounted how a.sink_faults b.sink_faults a.shortages b.shortages a.store_faults
+    b.store_faults
 
 -- what is lent lies where it lay, more was written or nothing, the map stands for some history
 -- still, and the counts of faults tell of this stop, or of none
@@ -138,6 +149,13 @@ pub record Works {K F T : Type 0} (ghosts : store.Ghosts F)
   pub store_name : e.store.ghost_name ≡ d.store.ghost_name
   pub sink_name : e.sink.ghost_name ≡ d.sink.ghost_name
   pub sink : e.sink.now ≡ d.sink.now
+
+-- a call that does what a verb says with the file of this name
+abbrev pub UsesFile : {K F T : Type 0} → store.Ghosts F → FileVerb → List ℕ → Lent K F → Lent K F
+    → Result T StoreFault → Option Reply → Type 0
+UsesFile ghosts verb name d e result reply =
+    Works ghosts (λ files s. effect_of_kind files s (Names verb name)) (Some (verb_work verb name))
+    None None d e result reply
 
 -- the fault that a call ended with, if one
 abbrev pub fault_in : {T E : Type 0} → Result T E → Option E

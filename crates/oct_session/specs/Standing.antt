@@ -27,15 +27,13 @@ use Rattle.oct_session.specs.Leaving.{IsLikeAfter, IsTornAfter, IsCutBetween, Is
 use Rattle.oct_session.specs.Leaving.{IsHalted}
 use Rattle.oct_session.specs.Leaving.{IsHaltedAtEnd, HasEndedAs}
 use Rattle.oct_session.specs.History.{History, State, after, after_all}
-use Rattle.oct_session.specs.Session.{Progress, Effect, effect_of, effect_of_kind, next_command}
+use Rattle.oct_session.specs.Session.{Progress, Effect, effect_of, next_command}
 use Rattle.oct_session.specs.Session.{after_line}
 use Rattle.oct_session.specs.Session.{progress, closed}
 use Rattle.oct_session.specs.Session.{session, finished, last_progress}
 use Rattle.oct_session.specs.Commands.{FileWork, named_in, changed_by, accepted, stored, file_saved}
 use Rattle.oct_session.specs.Commands.{order_answer, order_reply, order_action, question_reply}
-use Rattle.oct_session.specs.Commands.{question_action, verb_work}
-use Rattle.oct_script.specs.declared.verbs.FileVerb.{FileVerb}
-use Rattle.oct_session.specs.Kinds.{Names}
+use Rattle.oct_session.specs.Commands.{question_action}
 use Rattle.oct_session.specs.declared.kinds.Order.{Order}
 use Rattle.oct_session.specs.declared.kinds.Question.{Question}
 use Rattle.oct_session.specs.ScanBlock.{block_reply, block_action, GainsPoint}
@@ -156,13 +154,6 @@ HasEffect effect asked before old told new untold block (Ok answer) =
 HasEffect effect asked before old told new untold block (Err fault) =
     (files : Option Files) (s : State) → FindsTold (named_in asked) files → IsLike files s old told
     → TakesMemory before (effect files s) × HasFailed asked files s new untold fault
-
--- what a verb does with the file of this name had its effect, or it failed
-abbrev pub HasUsed : FileVerb → List ℕ → Map → Option Files → Map → Option Files
-    → Result (Option Reply) StoreFault → Type 0
-HasUsed verb name old told new untold result =
-    HasEffect (λ files s. effect_of_kind files s (Names verb name)) (Some (verb_work verb name))
-    None old told new untold None result
 
 -- the next line failed, or all of it was done and memory ran out for its reply
 abbrev pub StandsBeside : Setup → Desk → Progress → Line → StoreFault → Type 0

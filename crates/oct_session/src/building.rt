@@ -1,13 +1,8 @@
 //! Builds: a script in, and the file of the map that it leaves out.
-ghost use Rattle.std.specs.Prelude.{◌≡◌, ◌≢◌, ◌⊎◌, IfSome, None, true, false};
-ghost use Rattle.oct_io.specs.Told.{Rose};
-ghost use Rattle.oct_bt.specs.File.{bt_text};
-ghost use Rattle.oct_tree.specs.Classes.{classes_in};
-ghost use Rattle.oct_io.specs.FaultCounts.{IsSourceCounted, IsSinkCounted, IsStoreCounted};
-ghost use Rattle.oct_session.specs.Building.{has_ended, EndsWriting, HasBuiltAs, IsUnasked};
-ghost use Rattle.oct_io.specs.Whole.{IsWhole};
+ghost use Rattle.std.specs.Prelude.{◌≡◌, IfSome, None};
+ghost use Rattle.oct_session.specs.Building.{has_ended, HasBuiltAs, IsUnasked};
 ghost use Rattle.oct_session.specs.History.{start_state};
-ghost use Rattle.oct_session.specs.Leaving.{StandsFor, StandsForSome, desk};
+ghost use Rattle.oct_session.specs.Leaving.{StandsFor, desk, RunsScript};
 ghost use Rattle.oct_io.specs.Shelf.{shelf};
 ghost use Rattle.oct_session.specs.Session.{ReadsTold};
 
@@ -41,22 +36,6 @@ fn has_ended(status: Status) -> bool
     matches!(status, Status::Done | Status::Refused)
 }
 
-/// Writes the file of a map whose script ended with this status.
-fn write_map<K: Sink>(map: &OccMap, ended: Status, sink: &mut K) -> Status
-    requires { has_ended ended ≡ true }
-    ensures answer { EndsWriting (bt_text map.now.tree.res (classes_in map.now.tree))
-        (K.written sink.old) (K.written sink.new) ended result }
-    ensures only { has_ended result ≡ false
-        → (result ≡ Status.WriteFault) ⊎ (result ≡ Status.Memory) }
-    ensures write_fault { result ≡ Status.WriteFault
-        → Rose (K.faults sink.old) (K.faults sink.new) }
-    ensures no_write_fault { result ≢ Status.WriteFault → K.faults sink.new ≡ K.faults sink.old }
-    ensures memory { result ≡ Status.Memory → Rose (K.shortages sink.old) (K.shortages sink.new) }
-    ensures no_shortage { result ≢ Status.Memory → K.shortages sink.new ≡ K.shortages sink.old }
-{
-    status_written(ended, write(map.tree(), sink))
-}
-
 /// Does a script on the map that it is lent, as [`serve`] does, and writes the file of the classes
 /// that the map then has, in place of the replies.
 ///
@@ -78,28 +57,18 @@ pub fn build<S: Source, K: Sink, F: Store>(
         → HasBuiltAs options.now (F.files store.old) bytes (S.left source.new)
         (K.written sink.old) (K.written sink.new)
         (desk map.new (shelf F.files F.calls store.old store.new)) result) }
-    ensures stands { StandsForSome options.now map.new }
-    ensures usage { result ≢ Status.Usage }
-    ensures bad_file { result ≢ Status.BadFile }
 
     // Nothing is asked of the sink before the script has ended.
     ensures waits { IsUnasked result (sink.new ≡ sink.old) }
 
-    // A fault is met once and ends the build: its count rises by one exactly where the status names
-    // it, and no other count changes.
-    ensures source_counts { IsSourceCounted result (S.faults source.old) (S.faults source.new)
-        (S.ends source.old) (S.ends source.new) }
-    ensures sink_counts { IsSinkCounted result (K.faults sink.old) (K.faults sink.new)
-        (K.shortages sink.old) (K.shortages sink.new) }
-    ensures store_counts { IsStoreCounted result (F.faults store.old) (F.faults store.new) }
-    ensures complete { ¬ Rose (S.faults source.old) (S.faults source.new)
-        → ¬ Rose (K.faults sink.old) (K.faults sink.new)
-        → ¬ Rose (F.faults store.old) (F.faults store.new)
-        → result ≢ Status.Memory → IsWhole result }
+    // A fault is met once and ends the build.
+    ensures runs { RunsScript S.Source K.Sink F.Store options.now map.new source.old source.new
+        sink.old sink.new store.old store.new result }
 {
     let ended = serve(alloc, options, map, source, &mut Discard {}, store);
     if has_ended(ended) {
-        write_map(map, ended, sink)
+        let written = write(map.tree(), sink);
+        status_written(ended, written)
     } else {
         ended
     }

@@ -1,8 +1,7 @@
 //! What a command does that names a file: a save or a snapshot to the store, or a load or a restore
 //! from it.
-ghost use Rattle.std.specs.Prelude.{◌≡◌, ◌≤◌, ◌+◌, [], Ok, OnErr, Option, Some};
+ghost use Rattle.std.specs.Prelude.{◌≡◌, [], Ok, OnErr, Some};
 ghost use Rattle.oct_bt.specs.File.{reading};
-ghost use Rattle.oct_io.specs.Counts.{IsAskCounted};
 ghost use Rattle.oct_snap.specs.Reading.{read_snapshot};
 ghost use Rattle.oct_session.specs.FileCommands.{load_action, load_reply, reading_action};
 ghost use Rattle.oct_session.specs.FileCommands.{reading_reply};
@@ -10,31 +9,29 @@ ghost use Rattle.oct_session.specs.FileCommands.{restore_action, restore_reply, 
 ghost use Rattle.oct_session.specs.FileCommands.{snapshot_reply};
 ghost use Rattle.oct_session.specs.MapMemory.{ReadingTakesMemory, LoadTakesMemory};
 ghost use Rattle.oct_session.specs.MapMemory.{SnapshotTakesMemory, RestoreTakesMemory};
-ghost use Rattle.oct_session.specs.Standing.{with_reply, HasDone, HasUsed, KeepsStanding};
+ghost use Rattle.oct_session.specs.Moments.{UsesFile};
+ghost use Rattle.oct_session.specs.Standing.{with_reply, HasDone};
 
 use crate::commands::refuse;
+use crate::lent::Lent;
 use oct_bt::{BtFile, read_classes};
-use oct_io::{Loaded, Store, StoreFault};
+use oct_io::{Loaded, Sink, Store, StoreFault};
 use oct_map::OccMap;
 use oct_num::Memory;
 use oct_script::{FileVerb, Name, Refusal, Reply, file_refusal};
 use std::alloc::Global;
 
 /// Puts the file of the map's classes under a name of the store, and answers its length.
-fn save<F: Store>(
-    map: &OccMap,
-    store: &mut F,
+fn save<K: Sink, F: Store>(
+    lent: &mut Lent<'_, K, F>,
     name: &Name,
     reply: &mut Option<Reply>,
 ) -> Result<(), StoreFault>
-    ensures effect { HasUsed FileVerb.Save name.now map.now (F.files store.old) map.now
-        (F.files store.new) (with_reply result reply.new) }
-    ensures store_counts { IsAskCounted result (F.faults store.old) (F.faults store.new) }
-    ensures called { F.calls store.new ≤ F.calls store.old + 1 }
+    ensures { UsesFile F.Store FileVerb.Save name.now lent.old lent.new result reply.new }
 {
-    let file = map.to_bt()?;
+    let file = lent.map.to_bt()?;
     let bytes = file.as_slice();
-    store.save(name.as_str(), bytes)?;
+    lent.store.save(name.as_str(), bytes)?;
     *reply = Some(Reply::Saved(bytes.len() as u64));
     Ok(())
 }
@@ -100,39 +97,29 @@ fn take_in(
 }
 
 /// Loads the file of this name of the store, and answers it.
-fn load<F: Store>(
-    alloc: Global,
-    map: &mut OccMap,
-    store: &mut F,
+fn load<K: Sink, F: Store>(
+    lent: &mut Lent<'_, K, F>,
     name: &Name,
     reply: &mut Option<Reply>,
 ) -> Result<(), StoreFault>
-    ensures effect { HasUsed FileVerb.Load name.now map.old (F.files store.old) map.new
-        (F.files store.new) (with_reply result reply.new) }
-    ensures stands { KeepsStanding map.old map.new }
-    ensures store_counts { IsAskCounted result (F.faults store.old) (F.faults store.new) }
-    ensures called { F.calls store.new ≤ F.calls store.old + 1 }
+    ensures { UsesFile F.Store FileVerb.Load name.now lent.old lent.new result reply.new }
 {
-    let loaded = store.load(alloc, name.as_str())?;
-    take_in(alloc, map, loaded, reply)?;
+    let loaded = lent.store.load(lent.alloc, name.as_str())?;
+    take_in(lent.alloc, lent.map, loaded, reply)?;
     Ok(())
 }
 
 /// Puts the snapshot of the map under a name of the store, and answers its length.
-fn snapshot<F: Store>(
-    map: &OccMap,
-    store: &mut F,
+fn snapshot<K: Sink, F: Store>(
+    lent: &mut Lent<'_, K, F>,
     name: &Name,
     reply: &mut Option<Reply>,
 ) -> Result<(), StoreFault>
-    ensures effect { HasUsed FileVerb.Snapshot name.now map.now (F.files store.old) map.now
-        (F.files store.new) (with_reply result reply.new) }
-    ensures store_counts { IsAskCounted result (F.faults store.old) (F.faults store.new) }
-    ensures called { F.calls store.new ≤ F.calls store.old + 1 }
+    ensures { UsesFile F.Store FileVerb.Snapshot name.now lent.old lent.new result reply.new }
 {
-    let file = map.to_snapshot()?;
+    let file = lent.map.to_snapshot()?;
     let bytes = file.as_slice();
-    store.save(name.as_str(), bytes)?;
+    lent.store.save(name.as_str(), bytes)?;
     *reply = Some(Reply::Saved(bytes.len() as u64));
     Ok(())
 }
@@ -173,43 +160,31 @@ fn take_back(map: &mut OccMap, loaded: Loaded, reply: &mut Option<Reply>) -> Res
 }
 
 /// Restores the snapshot of this name of the store, and answers it.
-fn restore<F: Store>(
-    alloc: Global,
-    map: &mut OccMap,
-    store: &mut F,
+fn restore<K: Sink, F: Store>(
+    lent: &mut Lent<'_, K, F>,
     name: &Name,
     reply: &mut Option<Reply>,
 ) -> Result<(), StoreFault>
-    ensures effect { HasUsed FileVerb.Restore name.now map.old (F.files store.old) map.new
-        (F.files store.new) (with_reply result reply.new) }
-    ensures stands { KeepsStanding map.old map.new }
-    ensures store_counts { IsAskCounted result (F.faults store.old) (F.faults store.new) }
-    ensures called { F.calls store.new ≤ F.calls store.old + 1 }
+    ensures { UsesFile F.Store FileVerb.Restore name.now lent.old lent.new result reply.new }
 {
-    let loaded = store.load(alloc, name.as_str())?;
-    take_back(map, loaded, reply)?;
+    let loaded = lent.store.load(lent.alloc, name.as_str())?;
+    take_back(lent.map, loaded, reply)?;
     Ok(())
 }
 
 /// Does what a verb says with the file of this name of the store, and answers it.
-pub fn use_file<F: Store>(
-    alloc: Global,
-    map: &mut OccMap,
-    store: &mut F,
+pub fn use_file<K: Sink, F: Store>(
+    lent: &mut Lent<'_, K, F>,
     verb: FileVerb,
     name: &Name,
     reply: &mut Option<Reply>,
 ) -> Result<(), StoreFault>
-    ensures effect { HasUsed verb name.now map.old (F.files store.old) map.new
-        (F.files store.new) (with_reply result reply.new) }
-    ensures stands { KeepsStanding map.old map.new }
-    ensures store_counts { IsAskCounted result (F.faults store.old) (F.faults store.new) }
-    ensures called { F.calls store.new ≤ F.calls store.old + 1 }
+    ensures { UsesFile F.Store verb name.now lent.old lent.new result reply.new }
 {
     match verb {
-        FileVerb::Save => save(map, store, name, reply),
-        FileVerb::Load => load(alloc, map, store, name, reply),
-        FileVerb::Snapshot => snapshot(map, store, name, reply),
-        FileVerb::Restore => restore(alloc, map, store, name, reply),
+        FileVerb::Save => save(lent, name, reply),
+        FileVerb::Load => load(lent, name, reply),
+        FileVerb::Snapshot => snapshot(lent, name, reply),
+        FileVerb::Restore => restore(lent, name, reply),
     }
 }

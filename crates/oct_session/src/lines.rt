@@ -138,7 +138,7 @@ fn outside<K: Sink, F: Store>(
             open_scan(lent.alloc, parsed.number, head, block);
             Ok(())
         }
-        Rest::Names(verb, name) => use_file(lent.alloc, lent.map, lent.store, verb, name, reply),
+        Rest::Names(verb, name) => use_file(lent, verb, name, reply),
     }
 }
 

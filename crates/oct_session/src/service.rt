@@ -1,12 +1,10 @@
 //! The loop of a session: from the bytes of a source to the replies in a sink.
-ghost use Rattle.std.specs.Prelude.{◌≡◌, ◌≢◌, ◌+◌, ◌^◌, ◌<◌, length, IfSome};
+ghost use Rattle.std.specs.Prelude.{◌≡◌, ◌+◌, ◌^◌, ◌<◌, length, IfSome};
 ghost use Rattle.oct_io.specs.Told.{Rose};
-ghost use Rattle.oct_io.specs.FaultCounts.{IsSourceCounted, IsSinkCounted, IsStoreCounted};
-ghost use Rattle.oct_io.specs.FaultCounts.{IsScriptCounted, IsStopCounted};
+ghost use Rattle.oct_io.specs.FaultCounts.{IsScriptCounted};
 ghost use Rattle.oct_session.specs.History.{start_state};
 ghost use Rattle.oct_session.specs.Session.{status_at_end, ReadsTold};
-ghost use Rattle.oct_io.specs.Whole.{IsWhole};
-ghost use Rattle.oct_session.specs.Leaving.{StandsFor, StandsForSome, desk, HasEndedAs};
+ghost use Rattle.oct_session.specs.Leaving.{StandsFor, desk, HasEndedAs, RunsScript};
 ghost use Rattle.oct_io.specs.Shelf.{shelf};
 ghost use Rattle.oct_session.specs.Moments.{seen, stop_in, TakesPiece, Reads, IsWaiting};
 ghost use Rattle.oct_session.specs.Standing.{IsResting};
@@ -58,9 +56,6 @@ pub(crate) fn read_all<S: Source, K: Sink, F: Store>(
         (stop_in result) }
     ensures source_counts { IsScriptCounted result (S.faults source.old) (S.faults source.new)
         (S.ends source.old) (S.ends source.new) }
-    ensures counts { IsStopCounted result (K.faults lent.old.sink.now) (K.faults lent.new.sink.now)
-        (K.shortages lent.old.sink.now) (K.shortages lent.new.sink.now)
-        (F.faults lent.old.store.now) (F.faults lent.new.store.now) }
 {
     let mut buffer = [0u8; MOST_READ];
     let mut taken = 0u64;
@@ -106,21 +101,10 @@ pub fn serve<S: Source, K: Sink, F: Store>(
         → HasEndedAs options.now (F.files store.old) bytes (S.left source.new) (K.written sink.old)
         (K.written sink.new) (desk map.new (shelf F.files F.calls store.old store.new))
         (Rose (K.shortages sink.old) (K.shortages sink.new)) result) }
-    ensures stands { StandsForSome options.now map.new }
-    ensures usage { result ≢ Status.Usage }
-    ensures bad_file { result ≢ Status.BadFile }
 
-    // A fault is met once and ends the session: its count rises by one exactly where the status
-    // names it, and no other count changes. The end of the input is met once at most.
-    ensures source_counts { IsSourceCounted result (S.faults source.old) (S.faults source.new)
-        (S.ends source.old) (S.ends source.new) }
-    ensures sink_counts { IsSinkCounted result (K.faults sink.old) (K.faults sink.new)
-        (K.shortages sink.old) (K.shortages sink.new) }
-    ensures store_counts { IsStoreCounted result (F.faults store.old) (F.faults store.new) }
-    ensures complete { ¬ Rose (S.faults source.old) (S.faults source.new)
-        → ¬ Rose (K.faults sink.old) (K.faults sink.new)
-        → ¬ Rose (F.faults store.old) (F.faults store.new)
-        → result ≢ Status.Memory → IsWhole result }
+    // A fault is met once and ends the session.
+    ensures runs { RunsScript S.Source K.Sink F.Store options.now map.new source.old source.new
+        sink.old sink.new store.old store.new result }
 {
     let mut session = Session::new(alloc);
     let mut lent = Lent {

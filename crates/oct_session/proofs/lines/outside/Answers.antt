@@ -77,21 +77,21 @@ returns-in-Names g c = λ line.
     (sym (ap rest_seen c.in-Names.is) ∙ c.rest_of.ensures.exact) in
     let kept = some_part (with_reply c.by_map.result c.by_map.new.reply) c.args.lent.now.map.now
     c.by_map.new.map (kind_of c.args.parsed.now.command) c.by_map.ensures.done in
-    works_by_kind g.F.Store c.args.lent.now _ c.use_file.result c.use_file.new.reply
+    works_by_kind g.F.Store c.args.lent.now c.use_file.new.lent c.use_file.result
+    c.use_file.new.reply
     c.args.parsed.now.number line c.args.parsed.now.command
     (Names c.in-Names.verb c.in-Names.name.now) c.args.block.now is (record {
-      took = verb_used (with_reply c.use_file.result c.use_file.new.reply)
-          c.args.lent.now.map.now c.by_map.new.map c.use_file.new.map _ _
-          c.args.parsed.now.number c.in-Names.verb c.in-Names.name.now c.args.block.now
-          c.by_map.new.reply c.requires.closed
+      took = verb_used g.F.Store c.args.lent.now.map.now _ _ c.use_file.new.lent
+          c.use_file.result c.args.parsed.now.number c.in-Names.verb c.in-Names.name.now
+          c.args.block.now c.by_map.new.reply c.use_file.new.reply c.requires.closed
           (part_as c.args.lent.now.map.now c.by_map.new.map
           (Names c.in-Names.verb c.in-Names.name.now) (kind_of c.args.parsed.now.command)
-          c.by_map.new.reply (sym is) c.in_ok-by_map.ensures.done) c.use_file.ensures.effect;
+          c.by_map.new.reply (sym is) c.in_ok-by_map.ensures.done) refl c.use_file.ensures;
       stands = λ o some. c.use_file.ensures.stands o (kept o some);
-      asks = record { unasked = λ none. cc; few = c.use_file.ensures.called };
-      counts = c.use_file.ensures.store_counts;
-      map_name = refl;
-      store_name = refl;
-      sink_name = refl;
-      sink = refl;
+      asks = c.use_file.ensures.asks;
+      counts = c.use_file.ensures.counts;
+      map_name = c.use_file.ensures.map_name;
+      store_name = c.use_file.ensures.store_name;
+      sink_name = c.use_file.ensures.sink_name;
+      sink = c.use_file.ensures.sink;
     })

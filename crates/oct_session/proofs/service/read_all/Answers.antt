@@ -1,12 +1,10 @@
-use Rattle.std.proofs.Common.{arith, refl, rules, ap, ◌∙◌, ◌-◌, Result, Ok}
-use Rattle.std.specs.Prelude.{⊤}
-use Rattle.oct_io.specs.declared.stop.Stop.{Stop}
+use Rattle.std.proofs.Common.{arith, refl, rules, ap, ◌∙◌, ◌-◌}
 use Rattle.oct_session.specs.Moments.{seen}
 use Rattle.oct_session.proofs.Endings.{IsRead}
 use Rattle.oct_session.proofs.Moves.{done_none, done_join}
 use Rattle.oct_session.proofs.Turns.{turn_unread, turn_taken, turn_stopped, turn_fits}
 use Rattle.oct_session.proofs.Turns.{turn_end, reads_on, reads_stopped, reads_quit, reads_more}
-use Rattle.oct_session.proofs.Turns.{reads_end, reads_counted}
+use Rattle.oct_session.proofs.Turns.{reads_end}
 use Rattle.oct_session.proofs.service.read_all.Given.{Over}
 use Rattle.oct_session.proofs.service.read_all.Goals.{After-take_piece}
 use Rattle.oct_session.proofs.service.read_all.Goals as goal
@@ -69,26 +67,6 @@ returns-then-count-eq0-clause-reads g c =
     (turn_taken c.args.options.now _ _ _ _ c.reading.taken _ _ _ _ c.reading.invariant.waits gave
     c.in_ok-take_piece.ensures) c.if-session.false)
     c.end.ensures
-
-pub returns-in_err-count-clause-counts : goal.returns-in_err-count-clause-counts
-returns-in_err-count-clause-counts g c =
-    reads_counted c.from_residual.result c.args.options.now _ _ _ _
-    (returns-in_err-count-clause-reads g c)
-
-pub returns-in_err-take_piece-clause-counts : goal.returns-in_err-take_piece-clause-counts
-returns-in_err-take_piece-clause-counts g c =
-    reads_counted c.from_residual-in_err-take_piece.result c.args.options.now _ _ _ _
-    (returns-in_err-take_piece-clause-reads g c)
-
-pub returns-then-session-clause-counts : goal.returns-then-session-clause-counts
-returns-then-session-clause-counts g c =
-    let r : Result ⊤ Stop = Ok tt in
-    reads_counted r c.args.options.now _ _ _ _ (returns-then-session-clause-reads g c)
-
-pub returns-then-count-eq0-clause-counts : goal.returns-then-count-eq0-clause-counts
-returns-then-count-eq0-clause-counts g c =
-    reads_counted c.end.result c.args.options.now _ _ _ _
-    (returns-then-count-eq0-clause-reads g c)
 
 pub reading-init : goal.reading-init
 reading-init g c = record {
