@@ -18,12 +18,13 @@ use Rattle.oct_map.specs.Map.{Map, values_of}
 use Rattle.oct_values.specs.Counts.{group_count, node_count}
 use Rattle.oct_values.proofs.Uniform.{same_group_count, same_node_count}
 use Rattle.oct_session.specs.Drill.{drill, drill_setup, drilled, drilled_state, line_of_two}
-use Rattle.oct_session.specs.Drill.{summary, summary_of}
+use Rattle.oct_session.specs.Drill.{summary, summary_of, lines_about, HasLeft}
 use Rattle.oct_io.specs.Answer.{Answer, EndsUnread}
 use Rattle.oct_session.specs.History.{State}
 use Rattle.oct_session.specs.Leaving.{StandsFor, Desk, desk, IsKnown}
 use Rattle.oct_io.specs.Shelf.{Shelf}
 use Rattle.oct_session.specs.Session.{last_progress, status_at_end}
+use Rattle.oct_session.specs.Moments.{AreCounted, stop_in}
 use Rattle.oct_session.specs.Setup.{Setup}
 use Rattle.oct_session.specs.Standing.{seated, HasServed, IsThrough, Finishes, Ends}
 use Rattle.oct_io.specs.Stops.{status_of, status_written}
@@ -31,9 +32,11 @@ use Rattle.oct_io.specs.declared.status.Status.{Status}
 use Rattle.oct_io.specs.declared.stop.Stop.{Stop}
 use Rattle.oct_io.specs.declared.stop.Stop.TheVariants.{TooLong, ReadFault, WriteFault}
 use Rattle.oct_io.specs.declared.stop.Stop.TheVariants.{Memory, StoreFault}
+use Rattle.oct_session.specs.declared.drilling.Leavings.{Leavings}
 use Rattle.oct_session.specs.declared.session.Session.{Session}
 use Rattle.oct_session.specs.Tally.{capped}
 use Rattle.oct_session.specs.declared.tally.Tally.{Tally}
+use Rattle.oct_session.proofs.Built.{zero_stays}
 use Rattle.oct_session.proofs.Endings.{IsFirst, IsNew, serving_start, known_told}
 use Rattle.oct_session.proofs.Loading.{same_file}
 
@@ -96,14 +99,12 @@ pub only_memory : {H : Type 0} (short : Type 0) (r : Result (Unit {0}) Stop) (o 
     o ≡ drill_setup → left ≡ Some (script_of seed scans points) → IsFirst (Some told) (k first)
     → IsNew drill_setup m s → seed < 2 ^ 64 → scans ≤ 1000 → points ≤ 100000 →
     IfErr r (λ stop. Ends o left after (seated (λ first. desk m (k first)) None) (seated e None) s 0
-    short (status_of stop)) →
-    (IsErrOf r ReadFault → ⊥) → (IsErrOf r WriteFault → ⊥) → (IsErrOf r StoreFault → ⊥)
+    short (status_of stop)) → (IsErrOf r ReadFault → ⊥) → AreCounted (stop_in r) 0 0 0 0 0 0
     → IfErr r (λ stop. stop ≡ Memory)
 only_memory short (Ok done) o told seed scans points left after m k e first s is reads at new a b c
-    stops
-    unread unwritten unstored = tt
+    stops unread counted = tt
 only_memory short (Err TooLong) o told seed scans points left after m k e first s is reads at new a
-    b c stops unread unwritten unstored =
+    b c stops unread counted =
     let script = script_of seed scans points in
     let ended = stops first (Some told) script None
     (script_begins o told script left m (k first) s is reads at new) (script_known o told script) in
@@ -112,16 +113,13 @@ only_memory short (Err TooLong) o told seed scans points left after m k e first 
     let long : o.max_bytes + 1 ≤ length script = ended.answer.1.within in
     absurd (omega (arith, most, few, long))
 only_memory short (Err ReadFault) o told seed scans points left after m k e first s is reads at new
-    a b c stops unread unwritten unstored = absurd (unread refl)
+    a b c stops unread counted = absurd (unread refl)
 only_memory short (Err WriteFault) o told seed scans points left after m k e first s is reads at new
-    a b c
-    stops unread unwritten unstored = absurd (unwritten refl)
+    a b c stops unread counted = absurd (zero_stays counted.0)
 only_memory short (Err Memory) o told seed scans points left after m k e first s is reads at new a b
-    c
-    stops unread unwritten unstored = refl
+    c stops unread counted = refl
 only_memory short (Err StoreFault) o told seed scans points left after m k e first s is reads at new
-    a b c
-    stops unread unwritten unstored = absurd (unstored refl)
+    a b c stops unread counted = absurd (zero_stays counted.2)
 
 -- the lines aren't empty
 summary_some : (scans : ℕ) (tally : Tally) (groups nodes bytes : ℕ)
@@ -140,16 +138,18 @@ pub summary_alike : (scans : ℕ) (tally : Tally) (groups nodes bytes g n b : �
     → nodes ≡ n → bytes ≡ b → summary scans tally groups nodes bytes ≡ summary scans tally g n b
 summary_alike scans tally groups nodes bytes g n b eg en eb = rw (eg, en, eb) refl
 
--- the lines about a map that stands for a state
-pub summary_stands : (m : Map) (s : State) (scans : ℕ) (tally told : Tally) → tally ≡ told
-    → StandsFor m s →
-    summary scans tally (group_count (values_of m)) (node_count (values_of m))
-    (length (bt_text m.tree.res (classes_in m.tree))) ≡ summary_of scans told s
-summary_stands m s scans tally told same at =
-    ap (λ t. summary scans t (group_count (values_of m)) (node_count (values_of m))
-    (length (bt_text m.tree.res (classes_in m.tree)))) same
-    ∙ summary_alike scans told _ _ _ _ _ _ (sym (same_group_count s.values (values_of m) at.values))
-    (sym (same_node_count s.values (values_of m) at.values)) (ap length (same_file m s at))
+-- the lines about what the script of a drill has left
+pub summary_left : (seed scans points : ℕ) (left : Leavings) → HasLeft seed scans points left
+    → lines_about scans left
+    ≡ summary_of scans (drilled seed scans points).tally (drilled_state seed scans points)
+summary_left seed scans points left has =
+    let s = drilled_state seed scans points in
+    ap (λ t. summary scans t (group_count (values_of left.map)) (node_count (values_of left.map))
+    (length (bt_text left.map.tree.res (classes_in left.map.tree)))) has.tally
+    ∙ summary_alike scans (drilled seed scans points).tally _ _ _ _ _ _
+    (sym (same_group_count s.values (values_of left.map) has.stands.values))
+    (sym (same_node_count s.values (values_of left.map) has.stands.values))
+    (ap length (same_file left.map s has.stands))
 
 -- a text that was written, or a part of it
 pub text_ends : (r : Result (Unit {0}) SinkFault) (whole : Answer) (refused : Bool) (text : List ℕ)
@@ -165,27 +165,31 @@ text_ends (Err sink.Failed) whole refused text v u status is written cut =
 text_ends (Err sink.Memory) whole refused text v u status is written cut =
     subst (IsCutOff v u) is cut
 
--- three texts that are appended in turn, and one in three parts after them
-pub appended_in_turn : (z a b c d e k l m n o : List ℕ) (p : List ℕ) → z ≡ [] → a ≡ z ++ k
-    → b ≡ a ++ l → c ≡ b ++ m → d ≡ c ++ n ++ o → e ≡ d ++ p → e ≡ k ++ l ++ m ++ (n ++ o ++ p)
-appended_in_turn z a b c d e k l m n o p ez ea eb ec ed ee =
-    rw (ee, ed, ec, eb, ea, ez)
-    (ap (λ t. t ++ p) (append_assoc (k ++ l ++ m) n o) ∙ append_assoc (k ++ l ++ m) (n ++ o) p)
+-- numbers and the words before them that are appended in turn, in four lines
+pub appended_in_turn : (z a b c d e f g h : List ℕ) (v w x y t u s : List ℕ)
+    (i j k l m n o : List ℕ) (end : List ℕ) → z ≡ [] → a ≡ z ++ v ++ i → b ≡ a ++ w ++ j
+    → c ≡ b ++ (end ++ x) ++ k → d ≡ c ++ y ++ l → e ≡ d ++ (end ++ t) ++ m → f ≡ e ++ u ++ n
+    → g ≡ f ++ (end ++ s) ++ o → h ≡ g ++ end
+    → h ≡ (v ++ i ++ w ++ j ++ end) ++ (x ++ k ++ y ++ l ++ end) ++ (t ++ m ++ u ++ n ++ end)
+    ++ (s ++ o ++ end)
+appended_in_turn z a b c d e f g h v w x y t u s i j k l m n o end ez ea eb ec ed ee ef eg eh =
+    rw (eh, eg, ef, ee, ed, ec, eb, ea, ez) (simp append_assoc refl)
 
 -- the four lines, as they are put together
-pub summary_built : (scans : ℕ) (tally : Tally) (groups nodes bytes : ℕ) (z a b c d e : List ℕ)
-    → z ≡ [] → a ≡ z ++ line_of_two (codes "scans ") scans (codes " refused ") tally.refused
-    → b ≡ a ++ line_of_two (codes "hits ") tally.hits (codes " frees ") tally.frees →
-    c ≡ b ++ line_of_two (codes "groups ") groups (codes " nodes ") nodes
-    → d ≡ c ++ codes "bt " ++ decimal bytes → e ≡ d ++ codes "\n"
-    → e ≡ summary scans tally groups nodes bytes
+pub summary_built : (scans : ℕ) (tally : Tally) (groups nodes bytes : ℕ)
+    (z a b c d e f g h : List ℕ) → z ≡ [] → a ≡ z ++ codes "scans " ++ decimal scans
+    → b ≡ a ++ codes " refused " ++ decimal tally.refused
+    → c ≡ b ++ codes "\nhits " ++ decimal tally.hits
+    → d ≡ c ++ codes " frees " ++ decimal tally.frees
+    → e ≡ d ++ codes "\ngroups " ++ decimal groups → f ≡ e ++ codes " nodes " ++ decimal nodes
+    → g ≡ f ++ codes "\nbt " ++ decimal bytes → h ≡ g ++ codes "\n"
+    → h ≡ summary scans tally groups nodes bytes
 unfolding summary
-summary_built scans tally groups nodes bytes z a b c d e ez ea eb ec ed ee =
-    appended_in_turn z a b c d e
-    (line_of_two (codes "scans ") scans (codes " refused ") tally.refused)
-    (line_of_two (codes "hits ") tally.hits (codes " frees ") tally.frees)
-    (line_of_two (codes "groups ") groups (codes " nodes ") nodes) (codes "bt ") (decimal bytes)
-    (codes "\n") ez ea eb ec ed ee
+summary_built scans tally groups nodes bytes z a b c d e f g h ez ea eb ec ed ee ef eg eh =
+    appended_in_turn z a b c d e f g h (codes "scans ") (codes " refused ") (codes "hits ")
+    (codes " frees ") (codes "groups ") (codes " nodes ") (codes "bt ") (decimal scans)
+    (decimal tally.refused) (decimal tally.hits) (decimal tally.frees) (decimal groups)
+    (decimal nodes) (decimal bytes) (codes "\n") ez ea eb ec ed ee ef eg eh
 
 -- a stop that is passed on
 pub passed_stop : {T : Type 0} (r : Result T Stop) (stop : Stop) → IsErrAnd r (λ x. x ≡ stop)
@@ -194,25 +198,20 @@ passed_stop (Ok done) stop same is = tt
 passed_stop (Err x) stop same is = same ∙ is
 
 -- a drill whose session is through
-pub drill_told : (r : Result (Unit {0}) SinkFault) (seed scans points : ℕ) (m : Map) (tally : Tally)
+pub drill_told : (r : Result (Unit {0}) SinkFault) (seed scans points : ℕ) (left : Leavings)
     (v u : Option (List ℕ)) (ended result : Status) (refused : Bool)
-    → tally ≡ (drilled seed scans points).tally → StandsFor m (drilled_state seed scans points) →
-    refused ≡ nat_lt 0 tally.refused → ended ≡ status_at_end refused
-    → result ≡ status_written ended r →
-    OnOk r (u ≡ appended v (summary scans tally (group_count (values_of m))
-    (node_count (values_of m)) (length (bt_text m.tree.res (classes_in m.tree))))) →
-    OnErr r (IsCutOff v u (summary scans tally (group_count (values_of m))
-    (node_count (values_of m)) (length (bt_text m.tree.res (classes_in m.tree))))) →
-    EndsUnread (drill seed scans points) v u result
-drill_told r seed scans points m tally v u ended result refused same stands some is ends written
-    cut =
+    → HasLeft seed scans points left → refused ≡ nat_lt 0 left.tally.refused
+    → ended ≡ status_at_end refused → result ≡ status_written ended r
+    → OnOk r (u ≡ appended v (lines_about scans left))
+    → OnErr r (IsCutOff v u (lines_about scans left))
+    → EndsUnread (drill seed scans points) v u result
+drill_told r seed scans points left v u ended result refused has some is ends written cut =
     subst (EndsUnread (drill seed scans points) v u)
     (sym (ends ∙ ap (λ x. status_written x r) is))
     (text_ends r (drill seed scans points) refused _ v u
-    (ap (λ (t : Tally). status_at_end (nat_lt 0 t.refused)) (sym same)
+    (ap (λ (t : Tally). status_at_end (nat_lt 0 t.refused)) (sym has.tally)
     ∙ ap status_at_end (sym some))
-    (summary_stands m (drilled_state seed scans points) scans tally
-    (drilled seed scans points).tally same stands) written cut)
+    (summary_left seed scans points left has) written cut)
 
 -- a drill whose session was stopped
 pub drill_stopped : (seed scans points : ℕ) (v : Option (List ℕ)) (stop : Stop) (result : Status)

@@ -1,14 +1,18 @@
 -- A drill: a session over a script that a number makes, and four lines about it.
-use Rattle.std.specs.Prelude.{ℕ, ◌^◌, ◌++◌, List, codes, decimal, length, nat_lt, Some}
+use Rattle.std.specs.Prelude.{◌≡◌, ℕ, ◌^◌, ◌++◌, List, codes, decimal, length, nat_lt, Some}
 use Rattle.oct_gen.specs.Script.{script_of}
 use Rattle.oct_io.specs.Answer.{Answer}
 use Rattle.oct_io.specs.Files.{no_files}
+use Rattle.oct_map.specs.Files.{file_of}
+use Rattle.oct_map.specs.Map.{values_of}
 use Rattle.oct_odds.specs.Odds.{default_odds}
 use Rattle.oct_values.specs.Counts.{group_count, node_count}
 use Rattle.oct_session.specs.FileCommands.{classes_file}
 use Rattle.oct_session.specs.History.{State, state_after}
+use Rattle.oct_session.specs.Leaving.{StandsFor}
 use Rattle.oct_session.specs.Session.{Progress, closed, last_progress, status_at_end}
 use Rattle.oct_session.specs.Setup.{Setup}
+use Rattle.oct_session.specs.declared.drilling.Leavings.{Leavings}
 use Rattle.oct_session.specs.declared.tally.Tally.{Tally}
 
 -- what a drill is set up with: voxels of 0.05 m, and the default of each option
@@ -42,6 +46,17 @@ summary scans tally groups nodes bytes =
     ++ line_of_two (codes "hits ") tally.hits (codes " frees ") tally.frees
     ++ line_of_two (codes "groups ") groups (codes " nodes ") nodes
     ++ (codes "bt " ++ decimal bytes ++ codes "\n")
+
+-- the lines about what a script has left
+abbrev pub lines_about : ℕ → Leavings → List ℕ
+lines_about scans left =
+    summary scans left.tally (group_count (values_of left.map)) (node_count (values_of left.map))
+    (length (file_of left.map))
+
+-- the script of these numbers has left this
+pub record HasLeft (seed scans points : ℕ) (left : Leavings) : Type 0 where
+  pub tally : left.tally ≡ (drilled seed scans points).tally
+  pub stands : StandsFor left.map (drilled_state seed scans points)
 
 -- the lines about a state and what the replies on the way to it come to
 abbrev pub summary_of : ℕ → Tally → State → List ℕ

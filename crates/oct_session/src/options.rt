@@ -1,11 +1,14 @@
 //! What a session is set up with.
 ghost use Rattle.std.specs.Prelude.{◌≡◌, ◌≤◌, ◌^◌};
 ghost use Rattle.oct_odds.specs.Odds.{odds_of};
+ghost use Rattle.oct_session.specs.History.{start_state};
+ghost use Rattle.oct_session.specs.Leaving.{StandsFor};
 ghost use Rattle.oct_session.specs.Setup.{IsLimited};
 
 use oct_key::Res;
-use oct_map::Limits;
+use oct_map::{Limits, OccMap};
 use oct_odds::OddsModel;
+use std::alloc::Global;
 use std::marker::Model;
 
 /// The largest number of bytes that a script may have.
@@ -50,5 +53,12 @@ impl Options {
         ensures limited { IsLimited self.now }
     {
         self.max_bytes
+    }
+
+    /// The map of the unknown world. Takes no memory.
+    pub fn new_map(&self, alloc: Global) -> OccMap
+        ensures { StandsFor result (start_state self.now) }
+    {
+        OccMap::new(alloc, self.res, self.odds, self.limits)
     }
 }
