@@ -235,8 +235,6 @@ FILES += [
 TASKS = [
     Row("gen writes how it was asked, and quit", "gen 7 0 0", "", "# octomap gen 7 0 0 / quit"),
     Row("A seed loses its leading zeros", "gen 0007 0 0", "", "# octomap gen 7 0 0 / quit"),
-    Row("The first number of seed 0 is 167951807 modulo 4001, less 2000, in millimetres",
-        "gen 0 1 0", "", Front("# octomap gen 0 1 0 / scan -0.17 ")),
     Row("The first number of seed 1 comes from 908834774", "gen 1 1 0", "",
         Front("# octomap gen 1 1 0 / scan 1.623 ")),
     Row("A drill of nothing leaves an empty map, whose file has 137 bytes at 0.05 m",

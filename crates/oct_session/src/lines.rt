@@ -154,14 +154,16 @@ fn inside(
         → HasWorked (λ s. effect_inside s parsed.now.number (Ok parsed.now.command) first) first
         map.old map.new block.new (with_reply result reply.new) }
 {
-    let Some(standing) = block.take() else {
-        return Ok(());
-    };
     if is_end(&parsed.command) {
+        let Some(standing) = block.take() else {
+            return Ok(());
+        };
         return finish(map, standing, reply);
     }
     *reply = None;
-    *block = Some(standing.with_command(parsed.number, &parsed.command)?);
+    if let Some(standing) = block {
+        standing.push(parsed.number, &parsed.command)?;
+    }
     Ok(())
 }
 

@@ -1,11 +1,11 @@
 //! The block of a scan that is being read.
-ghost use Rattle.std.specs.Prelude.{◌≡◌, ℕ, option_map, All, IfOk, OnErr, IfSome, Some, Ok, Err};
-ghost use Rattle.std.specs.Prelude.{is_err, pos, ◌≤ℤ◌, ◌<ℤ◌, ◌^◌};
+ghost use Rattle.std.specs.Prelude.{◌≡◌, ℕ, option_map, All, IfOk, OnOk, OnErr, IfSome, Some, Ok};
+ghost use Rattle.std.specs.Prelude.{Err, is_err, length, nat_le, pos, ◌≤ℤ◌, ◌<ℤ◌, ◌^◌};
 ghost use Rattle.oct_pose.specs.Reach.{IsInReach};
 ghost use Rattle.oct_scan.specs.Beam.{IsTrust, sighting_of};
 ghost use Rattle.oct_script.specs.Commands.{IsOwnOdds, IsRange, IsSmallCommand};
 ghost use Rattle.oct_session.specs.ScanSoFar.{begun, sighting_so_far, trust_of};
-ghost use Rattle.oct_session.specs.ScanBlock.{opens_block, with_point, with_line, spoilt_by};
+ghost use Rattle.oct_session.specs.ScanBlock.{opens_block, with_line, spoilt_by};
 ghost use Rattle.oct_session.specs.ScanBlock.{extended, GainsPoint};
 ghost use Rattle.oct_session.specs.ScanBlock.{is_zero, end_refusal};
 ghost use Rattle.oct_session.specs.Kinds.{IsSmallHead};
@@ -89,34 +89,19 @@ impl PendingScan {
         self.head.lazy
     }
 
-    /// The block with one point more, which is on the line of this number.
-    fn with_point(mut self, number: u64, p: Point) -> Result<ScanBlock, Memory>
-        requires { IsInReach p }
-        ensures exact { IfOk result (λ block. block ≡ with_point number p self) }
-        ensures memory { OnErr result
-            (with_point number p self ≡ ScanBlock.Scanning (extended p self)) }
+    /// Whether the scan has as many points as one may have.
+    fn is_full(&self) -> bool
+        ensures { result ≡ nat_le 1000000 (length self.now.points) }
     {
-        if self.points.as_slice().len() >= MOST_POINTS {
-            return Ok(ScanBlock::Spoilt(Refusal::TooManyPoints { line: number }));
-        }
-        self.points.push(p)?;
-        Ok(ScanBlock::Scanning(self))
+        self.points.as_slice().len() >= MOST_POINTS
     }
 
-    /// The block with one command more, which is on the line of this number.
-    fn with_command(self, number: u64, command: &Command) -> Result<ScanBlock, Memory>
-        requires { IsSmallCommand command.now }
-        ensures exact { IfOk result
-            (λ block. block ≡ with_line number (Ok command.now) (ScanBlock.Scanning self)) }
-        ensures memory { OnErr result (GainsPoint (Some (ScanBlock.Scanning self))
-            (Some (with_line number (Ok command.now) (ScanBlock.Scanning self)))) }
+    /// Adds a point.
+    fn push(&mut self, p: Point) -> Result<(), Memory>
+        requires { IsInReach p }
+        ensures { OnOk result (self.new ≡ extended p self.old) }
     {
-        match kind_of(command) {
-            Kind::Adds(p) => self.with_point(number, p),
-            Kind::Closes | Kind::Orders(_) | Kind::Asks(_) | Kind::Rests(_) => {
-                Ok(ScanBlock::Scanning(self))
-            }
-        }
+        self.points.push(p)
     }
 
     /// The scan of these points, unless its quaternion is 0.
@@ -139,18 +124,25 @@ impl PendingScan {
 }
 
 impl ScanBlock {
-    /// The block with one command more, which is on the line of this number and doesn't close it.
-    /// Memory is taken for a point alone.
-    pub fn with_command(self, number: u64, command: &Command) -> Result<ScanBlock, Memory>
+    /// Adds a command, which is on the line of this number and doesn't close the block. Memory is
+    /// taken for a point alone.
+    pub fn push(&mut self, number: u64, command: &Command) -> Result<(), Memory>
         requires { IsSmallCommand command.now }
-        ensures exact { IfOk result (λ block. block ≡ with_line number (Ok command.now) self) }
+        ensures exact { OnOk result (self.new ≡ with_line number (Ok command.now) self.old) }
         ensures memory { OnErr result
-            (GainsPoint (Some self) (Some (with_line number (Ok command.now) self))) }
+            (GainsPoint (Some self.old) (Some (with_line number (Ok command.now) self.old))) }
     {
-        match self {
-            ScanBlock::Spoilt(first) => Ok(ScanBlock::Spoilt(first)),
-            ScanBlock::Scanning(scan) => scan.with_command(number, command),
+        let Kind::Adds(p) = kind_of(command) else {
+            return Ok(());
+        };
+        let ScanBlock::Scanning(scan) = self else {
+            return Ok(());
+        };
+        if scan.is_full() {
+            *self = ScanBlock::Spoilt(Refusal::TooManyPoints { line: number });
+            return Ok(());
         }
+        scan.push(p)
     }
 
     /// The block with a line more that is refused for this.

@@ -5,7 +5,7 @@ use std::test::Fail;
 
 /// Words, and the script that they ask for.
 const SCRIPTS: &[(&[&str], &str)] = &[
-    (&["gen", "7", "0", "0"], "# octomap gen 7 0 0\nquit\n"),
+    // The first number of seed 0 is 167951807 modulo 4001, less 2000, in millimetres.
     (
         &["gen", "0", "1", "0"],
         "# octomap gen 0 1 0\nscan -0.17 -0.161 -0.962 1 0 0 -1 8\nend\nquit\n",
@@ -38,10 +38,6 @@ fn a_script_is_made_and_nothing_is_read(rt: HostRuntime) {
 /// Words, and the four lines of the drill that they ask for, as the model in `tests/model` gives
 /// them too.
 const DRILLS: &[(&[&str], &str)] = &[
-    (
-        &["drill", "0", "0", "0"],
-        "scans 0 refused 0\nhits 0 frees 0\ngroups 0 nodes 0\nbt 137\n",
-    ),
     (
         &["drill", "7", "1000", "0"],
         "scans 1000 refused 0\nhits 0 frees 0\ngroups 0 nodes 0\nbt 137\n",

@@ -46,12 +46,6 @@ fn check(rt: &impl Abort, alloc: Global, cases: &[Case]) {
 }
 
 const GRIDS: &[Case] = &[
-    (
-        &["project", "0", "0", "0", "0.2", "0.1", "0.1"],
-        EIGHT,
-        b"P5\n3 2\n255\n\x00\x00\xCD\x00\x00\xCD",
-        Status::Done,
-    ),
     // Four columns at the middle of the map: a band from below to above, rows from the highest y.
     (
         &["project", "-0.1", "-0.1", "-0.1", "0", "0", "0"],

@@ -80,10 +80,6 @@ fn answer(rt: &impl Abort, alloc: Global, words: &[&str]) -> Result<(Status, Vec
 type Case = (&'static [&'static str], &'static [u8], Status);
 
 const MERGES: &[Case] = &[
-    (&["merge", "greatest", "A", "B"], EIGHT, Status::Done),
-    (&["merge", "least", "A", "B"], BOTH, Status::Done),
-    (&["merge", "first", "B", "A"], BOTH, Status::Done),
-    (&["merge", "first", "A", "B"], EIGHT, Status::Done),
     (&["merge", "least", "B", "A"], BOTH, Status::Done),
     (&["merge", "first", "A", "A"], EIGHT, Status::Done),
     (
@@ -100,26 +96,10 @@ const MERGES: &[Case] = &[
 
 const TABLES: &[Case] = &[
     (
-        &["table", "A", "B", "0", "0", "0", "0.1", "0.1", "0.1"],
-        b"unknown unknown 0\nunknown free 0\nunknown occupied 0\n\
-            free unknown 0\nfree free 0\nfree occupied 0\n\
-            occupied unknown 7\noccupied free 1\noccupied occupied 0\n",
-        Status::Done,
-    ),
-    (
         &["table", "B", "A", "0", "0", "0", "0.2", "0", "0"],
         b"unknown unknown 1\nunknown free 0\nunknown occupied 1\n\
             free unknown 0\nfree free 0\nfree occupied 1\n\
             occupied unknown 0\noccupied free 0\noccupied occupied 0\n",
-        Status::Done,
-    ),
-    (
-        &[
-            "table", "A", "B", "-3276.8", "-3276.8", "-3276.8", "3276.7", "3276.7", "3276.7",
-        ],
-        b"unknown unknown 281474976710648\nunknown free 0\nunknown occupied 0\n\
-            free unknown 0\nfree free 0\nfree occupied 0\n\
-            occupied unknown 7\noccupied free 1\noccupied occupied 0\n",
         Status::Done,
     ),
     (
@@ -132,11 +112,6 @@ const TABLES: &[Case] = &[
 ];
 
 const REFUSALS: &[Case] = &[
-    (
-        &["merge", "first", "A", "c"],
-        b"second refused 33 NoFile\n",
-        Status::Refused,
-    ),
     (
         &["merge", "first", "c", "d"],
         b"first refused 33 NoFile\n",
