@@ -17,10 +17,9 @@ use Rattle.oct_io.proofs.Appending.{appended_nil}
 use Rattle.oct_map.specs.Map.{Map, values_of}
 use Rattle.oct_values.specs.Counts.{group_count, node_count}
 use Rattle.oct_values.proofs.Uniform.{same_group_count, same_node_count}
-use Rattle.oct_session.specs.Drill.{drill, drill_setup, drilled, drilled_state, line_of_two}
+use Rattle.oct_session.specs.Drill.{drill, drill_setup, drilled, drilled_state}
 use Rattle.oct_session.specs.Drill.{summary, summary_of, lines_about, HasLeft}
 use Rattle.oct_io.specs.Answer.{Answer, EndsUnread}
-use Rattle.oct_session.specs.History.{State}
 use Rattle.oct_session.specs.Leaving.{StandsFor, Desk, desk, IsKnown}
 use Rattle.oct_io.specs.Shelf.{Shelf}
 use Rattle.oct_session.specs.Session.{last_progress, status_at_end}

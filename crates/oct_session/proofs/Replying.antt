@@ -1,6 +1,6 @@
 -- What a command or a scan answers, and what the map then stands for.
 use Rattle.std.specs.Prelude.{⊤, List}
-use Rattle.std.proofs.Common.{◌≡◌, ℕ, ℤ, [], ◌||◌, ◌&&◌, nat_lt, Bool, true, false, cond, IsTrue}
+use Rattle.std.proofs.Common.{◌≡◌, ◌≢◌, ℕ, ℤ, [], ◌||◌, ◌&&◌, nat_lt, Bool, true, false, cond, IsTrue}
 use Rattle.std.proofs.Common.{IsSome, Option, Some, None, Result, Ok, Err, IfOk, IfErr, OnOk, OnErr}
 use Rattle.std.proofs.Common.{inl, inr, refl, sym, ap, subst, ◌∙◌, ◌∷◌, is_some}
 use Rattle.std.proofs.Math.Bool.{or-false}
@@ -241,17 +241,6 @@ query_refused a m p depth f is answer = λ q at. (
   stands_kept m q (accepted a []) (accepted_none a [] refl) at,
 )
 
--- a cast that the map answered
-pub cast_done : (m : Map) (o e : Point) (ignore : Bool) (found : Cast)
-    → ◌≡◌ {A = Result Cast MapFault} (Ok found) (cast_answer (ground_of m) (values_of m) o e ignore)
-    →
-    Tells m m (question.Cast o e ignore) (Some (reply_of.Casted found))
-cast_done m o e ignore found answer = λ q at. (
-  ap cast_reply (answer ∙ same_cast m q o e ignore at),
-  stands_kept m q (accepted (Some (reply_of.Casted found)) [])
-      (accepted_none (Some (reply_of.Casted found)) [] refl) at,
-)
-
 -- a cast doesn't run out of memory
 cast_calm_at : (key_o key_e : Option Voxel) (found : Cast)
     → cast_answer_at key_o key_e found ≡ Err fault.Memory → ⊥
@@ -259,20 +248,18 @@ cast_calm_at None key_e found is = cc
 cast_calm_at (Some k) None found is = cc
 cast_calm_at (Some k) (Some l) found is = cc
 
-pub cast_calm : (m : Map) (o e : Point) (ignore : Bool) (f : MapFault)
-    → ◌≡◌ {A = Result Cast MapFault} (Err f) (cast_answer (ground_of m) (values_of m) o e ignore)
-    → f ≡ fault.Memory → ⊥
-cast_calm m o e ignore f answer memory =
+pub cast_calm : (m : Map) (o e : Point) (ignore : Bool) (r : Result Cast MapFault)
+    → r ≡ cast_answer (ground_of m) (values_of m) o e ignore → r ≢ Err fault.Memory
+cast_calm m o e ignore r answer = λ memory.
     cast_calm_at (key_at m.tree.res o) (key_at m.tree.res e)
-    (cast_along m.tree.res o e ignore (classes_of m.tree.odds (values_of m)))
-    (sym answer ∙ ap Err memory)
+    (cast_along m.tree.res o e ignore (classes_of m.tree.odds (values_of m))) (sym answer ∙ memory)
 
--- a cast that the map refused
-pub cast_refused : (a : Option Reply) (m : Map) (o e : Point) (ignore : Bool) (f : MapFault)
-    → a ≡ fault_reply f →
-    ◌≡◌ {A = Result Cast MapFault} (Err f) (cast_answer (ground_of m) (values_of m) o e ignore)
+-- what a cast found, as the map answered it
+pub cast_told : (a : Option Reply) (m : Map) (o e : Point) (ignore : Bool)
+    (r : Result Cast MapFault) → a ≡ cast_reply r
+    → r ≡ cast_answer (ground_of m) (values_of m) o e ignore
     → Tells m m (question.Cast o e ignore) a
-cast_refused a m o e ignore f is answer = λ q at. (
+cast_told a m o e ignore r is answer = λ q at. (
   is ∙ ap cast_reply (answer ∙ same_cast m q o e ignore at),
   stands_kept m q (accepted a []) (accepted_none a [] refl) at,
 )
@@ -293,30 +280,20 @@ counts_done m n counts groups nodes values stale pruned setup = λ q at.
       stands_pruned m n q values stale pruned setup at,
     )
 
--- a list that the map answered
-pub list_done : (m : Map) (lo hi : Point) (depth : ℕ) (blocks : List Shown) (threshold : ℤ)
-    → threshold ≡ m.tree.odds.thr →
-    IsAnswerOrMemory (list_answer (ground_of m) m.is_stale (values_of m) lo hi depth) (Ok blocks)
-    → Tells m m (question.List lo hi depth) (Some (reply_of.Blocks blocks threshold))
-list_done m lo hi depth blocks threshold is (inl answer) = λ q at. (
-  ap (λ t. Some (reply_of.Blocks blocks t)) (is ∙ ap (λ (g : Ground). g.odds.thr) at.base)
-      ∙ ap (list_reply q.base.odds.thr) (answer ∙ same_list m q lo hi depth at),
-  stands_kept m q (accepted (Some (reply_of.Blocks blocks threshold)) [])
-      (accepted_none (Some (reply_of.Blocks blocks threshold)) [] refl) at,
-)
-list_done m lo hi depth blocks threshold is (inr memory) = cc
-
--- a list that the map refused
-pub list_refused : {E : Type 0} (r : Result (Option Reply) E) (m : Map) (lo hi : Point)
-    (depth : ℕ) (f : MapFault) → IfOk r (λ a. a ≡ fault_reply f) → IfOk r IsSome →
-    IsAnswerOrMemory (list_answer (ground_of m) m.is_stale (values_of m) lo hi depth) (Err f)
+-- a list, as the map answered it
+pub list_told : {E : Type 0} (r : Result (Option Reply) E) (m : Map) (lo hi : Point) (depth : ℕ)
+    (listed : Result (List Shown) MapFault) (threshold : ℤ)
+    → IfOk r (λ a. a ≡ list_reply threshold listed) → IfOk r IsSome → threshold ≡ m.tree.odds.thr
+    → IsAnswerOrMemory (list_answer (ground_of m) m.is_stale (values_of m) lo hi depth) listed
     → HasTold m m (question.List lo hi depth) r
-list_refused (Ok a) m lo hi depth f is some (inl answer) = λ q at. (
-  is ∙ ap (list_reply q.base.odds.thr) (answer ∙ same_list m q lo hi depth at),
+list_told (Ok a) m lo hi depth listed threshold is some thr (inl answer) = λ q at. (
+  is ∙ ap (λ t. list_reply t listed) (thr ∙ ap (λ (g : Ground). g.odds.thr) at.base)
+      ∙ ap (list_reply q.base.odds.thr) (answer ∙ same_list m q lo hi depth at),
   stands_kept m q (accepted a []) (accepted_none a [] refl) at,
 )
-list_refused (Ok a) m lo hi depth f is some (inr memory) = absurd (no_reply f a some is cc)
-list_refused (Err x) m lo hi depth f is some answer =
+list_told (Ok a) m lo hi depth listed threshold is some thr (inr memory) =
+    absurd (no_reply fault.Memory a some (is ∙ ap (list_reply threshold) memory) refl)
+list_told (Err x) m lo hi depth listed threshold is some thr answer =
     λ q at. (list_some q.base.odds.thr q.base q.is_stale q.values lo hi depth, at)
 
 -- what has changed, as the map answered it

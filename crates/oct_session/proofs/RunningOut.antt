@@ -57,13 +57,13 @@ has_blocks (Err f) ok some = cc
 
 -- a list runs out where the map did
 pub list_runs_out : {A E : Type 0} (r : Result A E) (m : Map) (lo hi : Point) (depth : ℕ)
-    (f : MapFault) → OnErr r (f ≡ fault.Memory)
-    → (◌≡◌ {A = Result (List Shown) MapFault} (Err f) (Err fault.Memory)
+    (listed : Result (List Shown) MapFault) → OnErr r (listed ≡ Err fault.Memory)
+    → (listed ≡ Err fault.Memory
     → IsOk (list_answer (ground_of m) m.is_stale (values_of m) lo hi depth)
     × (list_answer (ground_of m) m.is_stale (values_of m) lo hi depth ≡ Ok [] → ⊥))
     → OnErr r (QuestionTakesMemory m (question.List lo hi depth))
-list_runs_out r m lo hi depth f short takes =
-    on_err_weaker r (λ x. let took = takes (ap Err x) in has_blocks _ took.0 took.1) short
+list_runs_out r m lo hi depth listed short takes =
+    on_err_weaker r (λ is. let took = takes is in has_blocks _ took.0 took.1) short
 
 -- a scan runs out where the map did
 pub scan_runs_out : {A E : Type 0} (r : Result A E) (m : Map) (scan : ScanSoFar) (s : Sighting)

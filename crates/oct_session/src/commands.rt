@@ -6,7 +6,8 @@ ghost use Rattle.oct_map.specs.Map.{Map};
 ghost use Rattle.oct_map.specs.declared.fault.MapFault.{MapFault};
 ghost use Rattle.oct_script.specs.Commands.{IsSmallCommand, IsSmallEdit};
 ghost use Rattle.oct_session.specs.History.{edit_event};
-ghost use Rattle.oct_session.specs.Commands.{map_action, map_reply, value_reply};
+ghost use Rattle.oct_session.specs.Commands.{cast_reply, list_reply, map_action, map_reply};
+ghost use Rattle.oct_session.specs.Commands.{value_reply};
 ghost use Rattle.oct_session.specs.Kinds.{kind_of, IsSmallOrder};
 ghost use Rattle.oct_session.specs.Refusals.{refusal_of, fault_reply};
 ghost use Rattle.oct_session.specs.Standing.{with_reply, HasCarriedOut, HasDone, HasObeyed};
@@ -16,10 +17,12 @@ ghost use Rattle.oct_session.specs.MapMemory.{KindTakesMemory, BlockTakesMemory}
 
 use crate::kinds::{Kind, Order, Question, kind_of};
 use crate::scan_block::{PendingScan, ScanBlock};
+use oct_cast::Cast;
 use oct_key::Point;
 use oct_map::{MapFault, OccMap};
 use oct_num::Memory;
 use oct_odds::{Event, OddsModel};
+use oct_query::BlockList;
 use oct_script::{Command, Edit, Refusal, Reply, ScanDone};
 
 /// The event of an edit.
@@ -173,34 +176,30 @@ fn query(map: &OccMap, p: Point, depth: u32, reply: &mut Option<Reply>)
     }
 }
 
-/// Asks what lies first on the straight way from a point to another one, and answers it.
-fn cast(map: &OccMap, origin: Point, end: Point, ignore_unknown: bool, reply: &mut Option<Reply>)
-    ensures { Tells map.now map.now (Question.Cast origin end ignore_unknown) reply.new }
+/// Answers what the map has found on a straight way.
+fn tell_found(found: Result<Cast, MapFault>, reply: &mut Option<Reply>)
+    requires { found ≢ Err MapFault.Memory }
+    ensures { reply.new ≡ cast_reply found }
 {
-    match map.cast(origin, end, ignore_unknown) {
+    match found {
         Ok(found) => *reply = Some(Reply::Casted(found)),
         Err(fault) => turn_down(fault, reply),
     }
 }
 
-/// Asks for the known blocks of a depth in a box, and answers them.
-fn list(
-    map: &OccMap,
-    lo: Point,
-    hi: Point,
-    depth: u32,
+/// Answers the blocks that the map has listed, where values from a threshold on are occupied.
+fn tell_blocks(
+    listed: Result<BlockList, MapFault>,
+    threshold: i32,
     reply: &mut Option<Reply>,
 ) -> Result<(), Memory>
-    ensures told { HasTold map.now map.now (Question.List lo hi depth)
-        (with_reply result reply.new) }
-    ensures memory { OnErr result (QuestionTakesMemory map.now (Question.List lo hi depth)) }
+    ensures ok { IfOk (with_reply result reply.new) (λ reply. reply ≡ list_reply threshold listed) }
+    ensures some { IfOk (with_reply result reply.new) IsSome }
+    ensures err { OnErr result (listed ≡ Err MapFault.Memory) }
 {
-    match map.list(lo, hi, depth) {
+    match listed {
         Ok(blocks) => {
-            *reply = Some(Reply::Blocks {
-                blocks,
-                threshold: map.tree().odds().thr,
-            });
+            *reply = Some(Reply::Blocks { blocks, threshold });
             Ok(())
         }
         Err(fault) => refuse(fault, reply),
@@ -235,10 +234,13 @@ fn ask(map: &mut OccMap, question: Question, reply: &mut Option<Reply>) -> Resul
     ensures memory { OnErr result (QuestionTakesMemory map.old question) }
 {
     match question {
-        Question::List { lo, hi, depth } => return list(map, lo, hi, depth, reply),
+        Question::List { lo, hi, depth } => {
+            let threshold = map.tree().odds().thr;
+            return tell_blocks(map.list(lo, hi, depth), threshold, reply);
+        }
         Question::Changes => return changes(map, reply),
         Question::Get { p, depth } => query(map, p, depth, reply),
-        Question::Cast { o, e, ignore } => cast(map, o, e, ignore, reply),
+        Question::Cast { o, e, ignore } => tell_found(map.cast(o, e, ignore), reply),
         Question::Counts => count(map, reply),
     }
     Ok(())

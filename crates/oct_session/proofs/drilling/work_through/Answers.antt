@@ -1,13 +1,13 @@
 use Rattle.std.proofs.Common.{Some, Err, ap, subst, rules, ◌∙◌}
 use Rattle.oct_io.specs.MemoryFiles.{files_of}
 use Rattle.oct_io.specs.Shelf.{shelf}
-use Rattle.oct_session.specs.Drill.{drill_setup, drilled_state}
+use Rattle.oct_session.specs.Drill.{drilled_state}
 use Rattle.oct_session.specs.History.{start_state}
 use Rattle.oct_session.specs.Leaving.{StandsFor}
 use Rattle.oct_session.specs.Standing.{desk_of}
 use Rattle.oct_session.proofs.Built.{zero_stays}
 use Rattle.oct_session.proofs.Drilled.{HasDrilled, work_done, only_memory, passed_stop}
-use Rattle.oct_session.proofs.Endings.{IsNew, nothing_asked}
+use Rattle.oct_session.proofs.Endings.{nothing_asked}
 use Rattle.oct_session.proofs.FewCounted.{drill_low}
 use Rattle.oct_session.proofs.Turns.{waits_first}
 use Rattle.oct_session.proofs.drilling.work_through.Goals as goal
