@@ -337,48 +337,50 @@ by_counting sources sinks silent stores o m s t x y u v d e (Ok z) ended calm ru
   store_counts = runs.store_counts;
   complete = λ reads writes files memory. calm.whole;
 }
-by_counting sources sinks silent stores o m s t x y u v d e (Err sink_fault.Failed) ended calm runs wrote = record {
-  stands = runs.stands;
-  usage = λ is. cc;
-  bad_file = λ is. cc;
-  source_counts = record {
-    read_fault = λ is. cc;
-    no_read_fault = λ other. runs.source_counts.no_read_fault calm.read;
-    few_ends = runs.source_counts.few_ends;
-  };
-  sink_counts = record {
-    write_fault = λ is. (wrote.failed refl).0;
-    no_write_fault = λ other. absurd (other refl);
-    memory = λ is. cc;
-    no_shortage = λ other. (wrote.failed refl).1;
-  };
-  store_counts = record {
-    store_fault = λ is. cc;
-    no_store_fault = λ other. runs.store_counts.no_store_fault calm.stored;
-  };
-  complete = λ reads writes files memory. absurd (writes (wrote.failed refl).0);
-}
-by_counting sources sinks silent stores o m s t x y u v d e (Err sink_fault.Memory) ended calm runs wrote = record {
-  stands = runs.stands;
-  usage = λ is. cc;
-  bad_file = λ is. cc;
-  source_counts = record {
-    read_fault = λ is. cc;
-    no_read_fault = λ other. runs.source_counts.no_read_fault calm.read;
-    few_ends = runs.source_counts.few_ends;
-  };
-  sink_counts = record {
-    write_fault = λ is. cc;
-    no_write_fault = λ other. (wrote.memory refl).0;
-    memory = λ is. inr (wrote.memory refl).1;
-    no_shortage = λ other. absurd (other refl);
-  };
-  store_counts = record {
-    store_fault = λ is. cc;
-    no_store_fault = λ other. runs.store_counts.no_store_fault calm.stored;
-  };
-  complete = λ reads writes files memory. absurd (memory refl);
-}
+by_counting sources sinks silent stores o m s t x y u v d e (Err sink_fault.Failed) ended calm runs
+    wrote = record {
+      stands = runs.stands;
+      usage = λ is. cc;
+      bad_file = λ is. cc;
+      source_counts = record {
+        read_fault = λ is. cc;
+        no_read_fault = λ other. runs.source_counts.no_read_fault calm.read;
+        few_ends = runs.source_counts.few_ends;
+      };
+      sink_counts = record {
+        write_fault = λ is. (wrote.failed refl).0;
+        no_write_fault = λ other. absurd (other refl);
+        memory = λ is. cc;
+        no_shortage = λ other. (wrote.failed refl).1;
+      };
+      store_counts = record {
+        store_fault = λ is. cc;
+        no_store_fault = λ other. runs.store_counts.no_store_fault calm.stored;
+      };
+      complete = λ reads writes files memory. absurd (writes (wrote.failed refl).0);
+    }
+by_counting sources sinks silent stores o m s t x y u v d e (Err sink_fault.Memory) ended calm runs
+    wrote = record {
+      stands = runs.stands;
+      usage = λ is. cc;
+      bad_file = λ is. cc;
+      source_counts = record {
+        read_fault = λ is. cc;
+        no_read_fault = λ other. runs.source_counts.no_read_fault calm.read;
+        few_ends = runs.source_counts.few_ends;
+      };
+      sink_counts = record {
+        write_fault = λ is. cc;
+        no_write_fault = λ other. (wrote.memory refl).0;
+        memory = λ is. inr (wrote.memory refl).1;
+        no_shortage = λ other. absurd (other refl);
+      };
+      store_counts = record {
+        store_fault = λ is. cc;
+        no_store_fault = λ other. runs.store_counts.no_store_fault calm.stored;
+      };
+      complete = λ reads writes files memory. absurd (memory refl);
+    }
 
 pub writing_runs : {S K H F T : Type 0} (sources : source.Ghosts S) (sinks : sink.Ghosts K)
     (silent : sink.Ghosts H) (stores : store.Ghosts F) (o : Setup) (m : Map) (s t : S) (x y : K)

@@ -232,11 +232,26 @@ halted_as : {short : Type 0} (o : Setup) (files : Option Files) (bytes : List �
     → HasAsked d (last_progress o files bytes).asks
     → HasEndedAs o files bytes left w u d short (status_of stop)
 halted_as o files bytes left w u d WriteFault only halted begun input asked =
-    record { answer = (begun, input); leaves = halted; asked = asked; files_told = λ all. absurd all }
+    record {
+      answer = (begun, input);
+      leaves = halted;
+      asked = asked;
+      files_told = λ all. absurd all;
+    }
 halted_as o files bytes left w u d Memory only halted begun input asked =
-    record { answer = (begun, input); leaves = halted; asked = asked; files_told = λ all. absurd all }
+    record {
+      answer = (begun, input);
+      leaves = halted;
+      asked = asked;
+      files_told = λ all. absurd all;
+    }
 halted_as o files bytes left w u d StoreStop only halted begun input asked =
-    record { answer = (begun, input); leaves = halted; asked = asked; files_told = λ all. absurd all }
+    record {
+      answer = (begun, input);
+      leaves = halted;
+      asked = asked;
+      files_told = λ all. absurd all;
+    }
 halted_as o files bytes left w u d TooLong only halted begun input asked = absurd only
 halted_as o files bytes left w u d ReadFault only halted begun input asked = absurd only
 

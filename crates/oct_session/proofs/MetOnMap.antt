@@ -47,7 +47,8 @@ axis_keys-IsInMap zero x y z on_x on_y on_z =
     All-cons IsInMap (axis_voxel x y z) [] (axis_voxel-IsInMap x y z on_x on_y on_z)
     (All-nil IsInMap)
 axis_keys-IsInMap (suc fuel) x y z on_x on_y on_z =
-    elim (x.crossings + y.crossings + z.crossings == 0) as (λ b. All IsInMap (axis_voxel x y z ∷ elim b [
+    elim (x.crossings + y.crossings + z.crossings == 0) as (λ b. All IsInMap (axis_voxel x y z
+    ∷ elim b [
       | true ↦ []
       | false ↦ axis_keys fuel (axis_after (crosses x y z) x) (axis_after (crosses y z x) y)
           (axis_after (crosses z x y) z)

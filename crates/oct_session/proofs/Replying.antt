@@ -1,8 +1,8 @@
 -- What a command or a scan answers, and what the map then stands for.
 use Rattle.std.specs.Prelude.{⊤, List}
-use Rattle.std.proofs.Common.{◌≡◌, ◌≢◌, ℕ, ℤ, [], ◌||◌, ◌&&◌, nat_lt, Bool, true, false, cond, IsTrue}
-use Rattle.std.proofs.Common.{IsSome, Option, Some, None, Result, Ok, Err, IfOk, IfErr, OnOk, OnErr}
-use Rattle.std.proofs.Common.{inl, inr, refl, sym, ap, subst, ◌∙◌, ◌∷◌, is_some}
+use Rattle.std.proofs.Common.{◌≡◌, ◌≢◌, ℕ, ℤ, [], ◌||◌, ◌&&◌, nat_lt, Bool, true, false, cond}
+use Rattle.std.proofs.Common.{IsTrue, IsSome, Option, Some, None, Result, Ok, Err, IfOk, IfErr}
+use Rattle.std.proofs.Common.{OnOk, OnErr, inl, inr, refl, sym, ap, subst, ◌∙◌, ◌∷◌, is_some}
 use Rattle.std.proofs.Math.Bool.{or-false}
 use Rattle.oct_key.specs.declared.point.Point.{Point}
 use Rattle.oct_odds.specs.declared.event.Event.{Event}

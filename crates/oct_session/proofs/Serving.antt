@@ -42,8 +42,8 @@ pub stopped_in_piece : {H : Type 0} (short : Type 0) (stop : Stop) (o : Setup)
     (taken n room : ℕ) → IsRead o buffer piece left after taken n room
     → StopsIn o (seated d v) (seated e u) s t piece room short stop
     → Ends o left after (seated d v) (seated e u) s taken short (status_of stop)
-stopped_in_piece short stop o buffer piece left after v u d e s t taken n room read stops first files
-    bytes w at known =
+stopped_in_piece short stop o buffer piece left after v u d e s t taken n room read stops first
+    files bytes w at known =
     ends_stop o files bytes buffer piece left after w v u d e first s t taken n room stop read
     stops at known
 
@@ -70,13 +70,13 @@ quits_in o buffer piece left after v u d e s t taken n room read running goes qu
     running quit goes at known
 
 -- a read that gives up, after reads that didn't
-pub stopped_in_turn : {H : Type 0} (stop : Stop) (o : Setup) (left after end a v u : Option (List ℕ))
-    (c d e : H → Desk) (s t : Session) (taken x y z : ℕ) → y ≡ x
-    → Serves o left after (seated c a) (seated d v) s t 0 taken
+pub stopped_in_turn : {H : Type 0} (stop : Stop) (o : Setup)
+    (left after end a v u : Option (List ℕ)) (c d e : H → Desk) (s t : Session) (taken x y z : ℕ)
+    → y ≡ x → Serves o left after (seated c a) (seated d v) s t 0 taken
     → Ends o after end (seated d v) (seated e u) t taken (Rose y z) (status_of stop)
     → Ends o left end (seated c a) (seated e u) s 0 (Rose x z) (status_of stop)
-stopped_in_turn stop o left after end a v u c d e s t taken x y z same goes stops first files bytes w
-    at known =
+stopped_in_turn stop o left after end a v u c d e s t taken x y z same goes stops first files bytes
+    w at known =
     subst (λ n. HasEndedAs o files bytes end w u (e first) (Rose n z) (status_of stop)) same
     (stops first files bytes w (goes first files bytes w at) known)
 
@@ -331,7 +331,10 @@ by_stop sources sinks stores o m s t x y d e stop.StoreFault stands input counte
     memory = λ is. cc;
     no_shortage = λ other. counted.1;
   };
-  store_counts = record { store_fault = λ is. counted.2; no_store_fault = λ other. absurd (other refl) };
+  store_counts = record {
+    store_fault = λ is. counted.2;
+    no_store_fault = λ other. absurd (other refl);
+  };
   complete = λ reads writes files memory. absurd (files counted.2);
 }
 

@@ -90,8 +90,8 @@ AreCounted how failures failures_after shortages shortages_after files files_aft
 
 -- so it is from one moment to another
 abbrev pub IsCounted : {F : Type 0} → Moment F → Moment F → Option Stop → Type 0
-IsCounted a b how = AreCounted how a.sink_faults b.sink_faults a.shortages b.shortages a.store_faults
-    b.store_faults
+IsCounted a b how = AreCounted how a.sink_faults b.sink_faults a.shortages b.shortages
+    a.store_faults b.store_faults
 
 -- what is lent lies where it lay, more was written or nothing, the map stands for some history
 -- still, and the counts of faults tell of this stop, or of none

@@ -7,7 +7,7 @@
 //!
 //! ```text
 //! let options = Options { res, odds: OddsModel::default(), limits, max_bytes: MOST_BYTES };
-//! let mut map = OccMap::new(alloc, options.res, options.odds, options.limits);
+//! let mut map = options.new_map(alloc);
 //! let status = serve(alloc, &options, &mut map, &mut source, &mut sink, &mut store);
 //! ```
 //!

@@ -1,7 +1,5 @@
 //! Scripts over a map that is lent, and what it is like after each way in which they end.
 ghost use Rattle.std.specs.Prelude.{◌<◌, ◌≤◌, ◌^◌};
-ghost use Rattle.oct_session.specs.History.{start_state};
-ghost use Rattle.oct_session.specs.Leaving.{StandsFor};
 
 use oct_io::{
     FailingSink, FailingSource, FailingStore, FileBytes, KeptList, MemorySink, MemorySource,
@@ -45,13 +43,6 @@ fn options(max_bytes: u64) -> Result<Options, Fail>
     })
 }
 
-/// The map of the unknown world.
-fn unknown(alloc: Global, options: &Options) -> OccMap
-    ensures { StandsFor result (start_state options.now) }
-{
-    OccMap::new(alloc, options.res, options.odds, options.limits)
-}
-
 /// The list of this number alone.
 fn only(alloc: Global, number: u64) -> Result<KeptList, Fail> {
     let mut list = KeptList::new(alloc);
@@ -67,7 +58,7 @@ fn ended<S: Source, K: Sink, F: Store>(
     sink: &mut K,
     store: &mut F,
 ) -> (Status, OccMap) {
-    let mut map = unknown(alloc, options);
+    let mut map = options.new_map(alloc);
     let status = serve(alloc, options, &mut map, source, sink, store);
     (status, map)
 }

@@ -1,8 +1,6 @@
 //! The top call of the program.
 ghost use Rattle.std.specs.Prelude.{◌≡◌, ◌≢◌, IfSome, Some, None};
 ghost use Rattle.oct_io.specs.Told.{Rose};
-ghost use Rattle.oct_session.specs.History.{start_state};
-ghost use Rattle.oct_session.specs.Leaving.{StandsFor};
 ghost use Rattle.oct_io.specs.Shelf.{shelf};
 ghost use Rattle.oct_tasks.specs.Words.{bytes_of};
 ghost use Rattle.oct_tasks.specs.Meant.{meant_task};
@@ -15,8 +13,7 @@ use crate::task::{Task, Usage, read_words};
 use oct_file_tasks::{answer_over_file, do_over_store};
 use oct_gen::generate;
 use oct_io::{Sink, Source, Status, Store, status_written};
-use oct_map::OccMap;
-use oct_session::{Options, build, drill, serve};
+use oct_session::{build, drill, serve};
 use std::alloc::Global;
 
 /// Does what the words of the command line ask for; the program's own name isn't among them.
@@ -93,11 +90,11 @@ fn perform<S: Source, K: Sink, F: Store>(
 {
     match task {
         Task::Session(options) => {
-            let mut map = map_for(alloc, options);
+            let mut map = options.new_map(alloc);
             serve(alloc, options, &mut map, source, sink, store)
         }
         Task::Build(options) => {
-            let mut map = map_for(alloc, options);
+            let mut map = options.new_map(alloc);
             build(alloc, options, &mut map, source, sink, store)
         }
         Task::OverFile { task, max_bytes } => {
@@ -118,11 +115,4 @@ fn perform<S: Source, K: Sink, F: Store>(
             points,
         } => drill(alloc, *seed, *scans, *points, sink),
     }
-}
-
-/// The map of the unknown world, set up as a session is.
-fn map_for(alloc: Global, options: &Options) -> OccMap
-    ensures { StandsFor result (start_state options.now) }
-{
-    OccMap::new(alloc, options.res, options.odds, options.limits)
 }

@@ -22,7 +22,8 @@ returns-in-List-clause-told c =
     (list_told (with_reply c.tell_blocks.result c.tell_blocks.new.reply) c.args.map.now c.in-List.lo
     c.in-List.hi c.in-List.depth c.list.result _ c.tell_blocks.ensures.ok c.tell_blocks.ensures.some
     (to_z-of_z w32 c.odds-threshold.result.thr fits
-    ∙ ap (λ (o : Odds). o.thr) (c.odds-threshold.ensures ∙ ap (λ (t : Tree). t.odds) c.tree.ensures.exact))
+    ∙ ap (λ (o : Odds). o.thr)
+    (c.odds-threshold.ensures ∙ ap (λ (t : Tree). t.odds) c.tree.ensures.exact))
     c.list.ensures.answer)
 
 pub returns-in-List-clause-memory : goal.returns-in-List-clause-memory

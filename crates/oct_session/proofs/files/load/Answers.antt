@@ -12,7 +12,8 @@ pub returns-in_err-loaded : goal.returns-in_err-loaded
 returns-in_err-loaded g c =
     let err : IsErr c.from_residual.result = search rules in
     record {
-      took = load_failed (Some (Reads c.args.name.now)) load_reply (λ g found. load_action found) load_some
+      took = load_failed (Some (Reads c.args.name.now)) load_reply
+          (λ g found. load_action found) load_some
           (with_reply c.from_residual.result c.args.reply.now) c.args.lent.now.map.now _ _
           c.args.name.now refl refl (is_failed _ c.args.reply.now err) c.load.ensures.same;
       stands = λ o some. some;
@@ -26,16 +27,19 @@ returns-in_err-loaded g c =
 
 pub returns-in_err-take_in : goal.returns-in_err-take_in
 returns-in_err-take_in g c = record {
-  took = load_unfinished (Some (Reads c.args.name.now)) load_reply (λ g found. load_action found) load_some
+  took = load_unfinished (Some (Reads c.args.name.now)) load_reply
+      (λ g found. load_action found) load_some
       (with_reply c.from_residual-in_err-take_in.result c.take_in.new.reply)
       c.args.lent.now.map.now c.take_in.new.map _ _ c.args.name.now c.in_ok-loaded.loaded refl
       (failed_for _ c.take_in.new.reply store_fault.Memory
       c.from_residual-in_err-take_in.ensures.1) c.load.ensures.same c.in_err-take_in.ensures.done;
   stands = stands_where_done (with_reply c.take_in.result c.take_in.new.reply)
-      c.args.lent.now.map.now c.take_in.new.map (λ s. load_reply s.base (Some c.in_ok-loaded.loaded))
+      c.args.lent.now.map.now c.take_in.new.map
+      (λ s. load_reply s.base (Some c.in_ok-loaded.loaded))
       (λ s. load_action (Some c.in_ok-loaded.loaded)) c.take_in.ensures.done;
   asks = record { unasked = λ none. cc; few = c.load.ensures.called };
-  counts = ran_out _ _ _ c.from_residual-in_err-take_in.ensures.1 c.in_ok-loaded.ensures.counts.stays;
+  counts = ran_out _ _ _ c.from_residual-in_err-take_in.ensures.1
+      c.in_ok-loaded.ensures.counts.stays;
   map_name = refl;
   store_name = refl;
   sink_name = refl;
@@ -44,12 +48,14 @@ returns-in_err-take_in g c = record {
 
 pub returns : goal.returns
 returns g c = record {
-  took = load_done (Some (Reads c.args.name.now)) load_reply (λ g found. load_action found) c.args.lent.now.map.now
-      c.take_in.new.map _ _ c.as_str.result.now c.args.name.now c.in_ok-loaded.loaded
+  took = load_done (Some (Reads c.args.name.now)) load_reply (λ g found. load_action found)
+      c.args.lent.now.map.now c.take_in.new.map _ _ c.as_str.result.now c.args.name.now
+      c.in_ok-loaded.loaded
       c.take_in.new.reply refl c.as_str.ensures c.load.ensures.same c.in_ok-loaded.ensures.found
       c.in_ok-take_in.ensures.done;
   stands = stands_where_done (with_reply c.take_in.result c.take_in.new.reply)
-      c.args.lent.now.map.now c.take_in.new.map (λ s. load_reply s.base (Some c.in_ok-loaded.loaded))
+      c.args.lent.now.map.now c.take_in.new.map
+      (λ s. load_reply s.base (Some c.in_ok-loaded.loaded))
       (λ s. load_action (Some c.in_ok-loaded.loaded)) c.take_in.ensures.done;
   asks = record { unasked = λ none. cc; few = c.load.ensures.called };
   counts = counted_done _ _ _ _ c.in_ok-loaded.ensures.counts;

@@ -31,12 +31,15 @@ returns-in_err-take_back g c = record {
       (with_reply c.from_residual-in_err-take_back.result c.take_back.new.reply)
       c.args.lent.now.map.now c.take_back.new.map _ _ c.args.name.now c.in_ok-loaded.loaded refl
       (failed_for _ c.take_back.new.reply store_fault.Memory
-      c.from_residual-in_err-take_back.ensures.1) c.load.ensures.same c.in_err-take_back.ensures.done;
+      c.from_residual-in_err-take_back.ensures.1) c.load.ensures.same
+      c.in_err-take_back.ensures.done;
   stands = stands_where_done (with_reply c.take_back.result c.take_back.new.reply)
-      c.args.lent.now.map.now c.take_back.new.map (λ s. restore_reply s.base (Some c.in_ok-loaded.loaded))
+      c.args.lent.now.map.now c.take_back.new.map
+      (λ s. restore_reply s.base (Some c.in_ok-loaded.loaded))
       (λ s. restore_action s.base (Some c.in_ok-loaded.loaded)) c.take_back.ensures.done;
   asks = record { unasked = λ none. cc; few = c.load.ensures.called };
-  counts = ran_out _ _ _ c.from_residual-in_err-take_back.ensures.1 c.in_ok-loaded.ensures.counts.stays;
+  counts = ran_out _ _ _ c.from_residual-in_err-take_back.ensures.1
+      c.in_ok-loaded.ensures.counts.stays;
   map_name = refl;
   store_name = refl;
   sink_name = refl;
@@ -45,12 +48,14 @@ returns-in_err-take_back g c = record {
 
 pub returns : goal.returns
 returns g c = record {
-  took = load_done (Some (Reads c.args.name.now)) restore_reply restore_action c.args.lent.now.map.now
-      c.take_back.new.map _ _ c.as_str.result.now c.args.name.now c.in_ok-loaded.loaded
+  took = load_done (Some (Reads c.args.name.now)) restore_reply restore_action
+      c.args.lent.now.map.now c.take_back.new.map _ _ c.as_str.result.now c.args.name.now
+      c.in_ok-loaded.loaded
       c.take_back.new.reply refl c.as_str.ensures c.load.ensures.same c.in_ok-loaded.ensures.found
       c.in_ok-take_back.ensures.done;
   stands = stands_where_done (with_reply c.take_back.result c.take_back.new.reply)
-      c.args.lent.now.map.now c.take_back.new.map (λ s. restore_reply s.base (Some c.in_ok-loaded.loaded))
+      c.args.lent.now.map.now c.take_back.new.map
+      (λ s. restore_reply s.base (Some c.in_ok-loaded.loaded))
       (λ s. restore_action s.base (Some c.in_ok-loaded.loaded)) c.take_back.ensures.done;
   asks = record { unasked = λ none. cc; few = c.load.ensures.called };
   counts = counted_done _ _ _ _ c.in_ok-loaded.ensures.counts;

@@ -55,7 +55,8 @@ returns-in_err-flush-in-Err-clause-does g c =
     (clear_next c.make_way.new.text.items c.args.self.now.block
     (c.args.self.now.line_count + 1) c.args.line.now _ (read_next _ _ _ _ _ c.read.ensures.exact
     c.is_some.ensures) c.in_ok-make_way.ensures.clear)
-    (c.in-Err.ensures c.args.line.now (parsed_next _ _ _ _ c.requires.running c.read.ensures.numbered
+    (c.in-Err.ensures c.args.line.now
+    (parsed_next _ _ _ _ c.requires.running c.read.ensures.numbered
     c.read.ensures.exact c.is_some.ensures c.read.ensures.opens))
     c.in_err-flush-in-Err.ensures.passes)
 
@@ -65,7 +66,8 @@ returns-in_ok-flush-in-Err-clause-does g c =
     (seen g.K.Sink g.F.Store c.answer.new.lent c.answer.new.self) _ _ _ _ c.args.self.now _
     c.answer.new.self _ c.args.line.now _ _ _ c.from.result c.from.ensures c.requires.running
     (record { counted = refl; block = refl; refused = refl; has_quit = refl; tally = refl })
-    c.in_ok-make_way.ensures.passes (c.in-Err.ensures c.args.line.now (parsed_next _ _ _ _ c.requires.running c.read.ensures.numbered
+    c.in_ok-make_way.ensures.passes (c.in-Err.ensures c.args.line.now
+    (parsed_next _ _ _ _ c.requires.running c.read.ensures.numbered
     c.read.ensures.exact c.is_some.ensures c.read.ensures.opens))
     c.in_ok-flush-in-Err.ensures.passes
     c.flush.ensures.empty
