@@ -123,7 +123,7 @@ between_room edge a b range la lb = elim (cases_lt b a) [
 height_is : (edge : ℕ) (c : ℤ) → IsOnMap edge c → c ≡ (pos (height_of edge c) -ℤ pos (32768 * edge))
 height_is edge c (low, high) = omega (arith, ints)
 
-height_below : (edge : ℕ) (c : ℤ) → IsOnMap edge c → height_of edge c < 65536 * edge
+pub height_below : (edge : ℕ) (c : ℤ) → IsOnMap edge c → height_of edge c < 65536 * edge
 height_below edge c (low, high) = omega (arith, ints)
 
 -- an axis that is computed is the axis of its ends, and has room

@@ -10,6 +10,7 @@ pub mod MapFaces
 pub mod Cuts
 pub mod Ends
 pub mod ComputedAxes
+pub mod MetOnMap
 pub mod OneAxis
 pub mod LaterAxes
 pub mod Rests

@@ -9,7 +9,7 @@ use Rattle.oct_cast.specs.Cast.{stops, stopped_at, answer_for, cast_through, cas
 use Rattle.oct_key.specs.Voxel.{Voxel, IsInMap, key_at}
 use Rattle.oct_key.specs.declared.point.Point.{Point}
 use Rattle.oct_ray.specs.Met.{met_by}
-use Rattle.oct_session.proofs.MetOnMap.{met_by-IsInMap}
+use Rattle.oct_ray.proofs.MetOnMap.{met_by-IsInMap}
 use Rattle.oct_values.specs.Classes.{Classes}
 use Rattle.oct_values.proofs.Sums.{All-follows}
 

@@ -3,13 +3,13 @@ use Rattle.std.proofs.Common.{◌≡◌, ℕ, zero, suc, ◌+◌, ◌-◌, ◌*�
 use Rattle.std.proofs.Common.{false, cond, nat_le, ℤ, IsSome, refl, arith}
 use Rattle.std.specs.Prelude.{All}
 use Rattle.std.proofs.Math.Nat.{div-zero, div-lt_iff_lt-mul}
-use Rattle.std.proofs.lemmas.Int.{ints}
 use Rattle.std.proofs.lemmas.List.Elements.{All-nil, All-cons}
 use Rattle.oct_key.specs.Voxel.{IsInMap, key_at}
 use Rattle.oct_key.specs.declared.point.Point.{Point}
 use Rattle.oct_ray.specs.Axis.{IsOnMap, axis_after, crosses, axis_voxel, axis_keys}
 use Rattle.oct_ray.specs.Met.{height_of, rising_axis, falling_axis, axis_between, axis_of, met_by}
 use Rattle.oct_ray.specs.declared.axis.Axis.{Axis}
+use Rattle.oct_ray.proofs.ComputedAxes.{height_below}
 use Rattle.oct_ray.proofs.Crossings.{crosses-crossings}
 use Rattle.oct_ray.proofs.MapFaces.{on_map_with_key}
 
@@ -66,9 +66,6 @@ axis_keys-IsInMap (suc fuel) x y z on_x on_y on_z =
 quotient_below : (edge a : ℕ) → (0 < edge → a < 65536 * edge) → a / edge < 65536
 quotient_below zero a low = let none = div-zero a in omega (arith, none)
 quotient_below (suc n) a low = (div-lt_iff_lt-mul (omega arith)).1 (low (omega arith))
-
-height_below : (edge : ℕ) (c : ℤ) → IsOnMap edge c → height_of edge c < 65536 * edge
-height_below edge c (low, high) = omega (arith, ints)
 
 axis_between-KeepsToMap : (edge a b : ℕ) → a / edge < 65536 → b / edge < 65536
     → KeepsToMap (axis_between edge a b)
