@@ -71,14 +71,14 @@ split_joined (x ∷ xs) ys = by_test (is_line_feed x) refl (some_part xs) (split
         (slice_split-cons_no is_line_feed x xs e ∙ ap (onto_first x) is)))
 
 -- the lines that have ended in the front of parts stay
-lines_joined : (ps qs : List (List ℕ)) (at : ℕ) → (more : List HeaderLine)
+lines_from_joined : (ps qs : List (List ℕ)) (at : ℕ) → (more : List HeaderLine)
     × (lines_from at (joined_parts ps qs) ≡ lines_from at ps ++ more)
 unfolding joined_parts lines_from
-lines_joined [] qs at = (lines_from at qs, refl)
-lines_joined (p ∷ []) [] at = ([], refl)
-lines_joined (p ∷ []) (q ∷ qs) at = (lines_from at ((p ++ q) ∷ qs), refl)
-lines_joined (p ∷ r ∷ ps) qs at =
-    by_parts (joined_some r ps qs) (lines_joined (r ∷ ps) qs (at + length p + 1))
+lines_from_joined [] qs at = (lines_from at qs, refl)
+lines_from_joined (p ∷ []) [] at = ([], refl)
+lines_from_joined (p ∷ []) (q ∷ qs) at = (lines_from at ((p ++ q) ∷ qs), refl)
+lines_from_joined (p ∷ r ∷ ps) qs at =
+    by_parts (joined_some r ps qs) (lines_from_joined (r ∷ ps) qs (at + length p + 1))
   where
     joined_some : (r : List ℕ) (ps qs : List (List ℕ)) → (t : List ℕ) × (ts : List (List ℕ))
         × (joined_parts (r ∷ ps) qs ≡ t ∷ ts)
@@ -103,7 +103,7 @@ lines_joined (p ∷ r ∷ ps) qs at =
 lines_of_joined : (xs ys : List ℕ) → (more : List HeaderLine)
     × (lines_of (xs ++ ys) ≡ lines_of xs ++ more)
 lines_of_joined xs ys = by_first (lines_from 0 (slice_split is_line_feed xs))
-    (lines_joined (slice_split is_line_feed xs) (slice_split is_line_feed ys) 0)
+    (lines_from_joined (slice_split is_line_feed xs) (slice_split is_line_feed ys) 0)
   where
     by_first : (zs : List HeaderLine) → (more : List HeaderLine)
         × (lines_from 0 (joined_parts (slice_split is_line_feed xs) (slice_split is_line_feed ys))

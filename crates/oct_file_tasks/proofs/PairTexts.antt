@@ -50,17 +50,18 @@ some_reply (Table lo hi) (Ok pair) = some_table_reply pair (box_between pair.fir
 -- ---- nine lines
 
 -- three texts one after another, as a list of them has them
-three : (a b c : List ℕ) → a ++ b ++ c ≡ a ++ (b ++ (c ++ []))
-three a b c = append_assoc a b c ∙ ap (λ l. a ++ (b ++ l)) (sym (append-nil c))
+three_joined : (a b c : List ℕ) → a ++ b ++ c ≡ a ++ (b ++ (c ++ []))
+three_joined a b c = append_assoc a b c ∙ ap (λ l. a ++ (b ++ l)) (sym (append-nil c))
 
 -- and thrice three
-nine : (a b c d e f g h i : List ℕ) → (a ++ b ++ c) ++ (d ++ e ++ f) ++ (g ++ h ++ i)
+nine_joined : (a b c d e f g h i : List ℕ) → (a ++ b ++ c) ++ (d ++ e ++ f) ++ (g ++ h ++ i)
     ≡ (a ++ (b ++ (c ++ []))) ++ ((d ++ (e ++ (f ++ []))) ++ ((g ++ (h ++ (i ++ []))) ++ []))
-nine a b c d e f g h i =
-    three (a ++ b ++ c) (d ++ e ++ f) (g ++ h ++ i)
-    ∙ ap (λ l. l ++ ((d ++ e ++ f) ++ ((g ++ h ++ i) ++ []))) (three a b c)
-    ∙ ap (λ l. (a ++ (b ++ (c ++ []))) ++ (l ++ ((g ++ h ++ i) ++ []))) (three d e f)
-    ∙ ap (λ l. (a ++ (b ++ (c ++ []))) ++ ((d ++ (e ++ (f ++ []))) ++ (l ++ []))) (three g h i)
+nine_joined a b c d e f g h i =
+    three_joined (a ++ b ++ c) (d ++ e ++ f) (g ++ h ++ i)
+    ∙ ap (λ l. l ++ ((d ++ e ++ f) ++ ((g ++ h ++ i) ++ []))) (three_joined a b c)
+    ∙ ap (λ l. (a ++ (b ++ (c ++ []))) ++ (l ++ ((g ++ h ++ i) ++ []))) (three_joined d e f)
+    ∙ ap (λ l. (a ++ (b ++ (c ++ []))) ++ ((d ++ (e ++ (f ++ []))) ++ (l ++ [])))
+    (three_joined g h i)
 
 -- the nine lines of the counts are the table
 pub rows_are_table : (pair : Pair) (box : Window)
@@ -68,8 +69,8 @@ pub rows_are_table : (pair : Pair) (box : Window)
     (data_classes pair.second.codes)) ≡ table_text pair box
 unfolding table_text pair_counts
 rows_are_table pair box =
-    nine (line Unknown Unknown) (line Unknown Free) (line Unknown Occupied) (line Free Unknown)
-    (line Free Free) (line Free Occupied)
+    nine_joined (line Unknown Unknown) (line Unknown Free) (line Unknown Occupied)
+    (line Free Unknown) (line Free Free) (line Free Occupied)
     (line Occupied Unknown) (line Occupied Free) (line Occupied Occupied)
   where
     line : Class → Class → List ℕ

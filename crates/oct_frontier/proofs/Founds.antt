@@ -41,17 +41,20 @@ next_decides : (m n : ℕ) → Decides (is_next_to m n) (IsNextTo m n)
 next_decides m n = Decides-or (nat_eq (m + 1) n) (nat_eq (n + 1) m) (Decides-eqb (m + 1) n)
     (Decides-eqb (n + 1) m)
 
-three : {P Q R : Type 0} (x y z : Bool) → Decides x P → Decides y Q → Decides z R
+all_decide : {P Q R : Type 0} (x y z : Bool) → Decides x P → Decides y Q → Decides z R
     → Decides (x && y && z) (P × Q × R)
-three {P} {Q} {R} x y z dx dy dz =
+all_decide {P} {Q} {R} x y z dx dy dz =
     Decides-like (x && y && z) (λ h. (h.0.0, h.0.1, h.1)) (λ h. ((h.0, h.1), h.2))
     (Decides-and (x && y) z (Decides-and x y dx dy) dz)
 
 pub neighbours_decide : (j k : Voxel) → Decides (are_neighbours j k) (AreNeighbours j k)
 neighbours_decide j k =
-    let on_x = three _ _ _ (next_decides j.x k.x) (Decides-eqb j.y k.y) (Decides-eqb j.z k.z) in
-    let on_y = three _ _ _ (Decides-eqb j.x k.x) (next_decides j.y k.y) (Decides-eqb j.z k.z) in
-    let on_z = three _ _ _ (Decides-eqb j.x k.x) (Decides-eqb j.y k.y) (next_decides j.z k.z) in
+    let on_x =
+    all_decide _ _ _ (next_decides j.x k.x) (Decides-eqb j.y k.y) (Decides-eqb j.z k.z) in
+    let on_y =
+    all_decide _ _ _ (Decides-eqb j.x k.x) (next_decides j.y k.y) (Decides-eqb j.z k.z) in
+    let on_z =
+    all_decide _ _ _ (Decides-eqb j.x k.x) (Decides-eqb j.y k.y) (next_decides j.z k.z) in
     Decides-like (are_neighbours j k) (λ h. left h) (λ h. right h)
     (Decides-or _ _ (Decides-or _ _ on_x on_y) on_z)
   where

@@ -463,8 +463,8 @@ passing_all d code text r tail at left i end j =
 
 -- ---- the shares of the children
 
-three : {x y z u v w : ℕ} → x ≡ u → y ≡ v → z ≡ w → x * y * z ≡ u * v * w
-three ex ey ez = rw (ex, ey, ez) refl
+products_agree : {x y z u v w : ℕ} → x ≡ u → y ≡ v → z ≡ w → x * y * z ≡ u * v * w
+products_agree ex ey ez = rw (ex, ey, ez) refl
 
 pub shares_are : (lo hi : Voxel) (c : Cube) (x0 x1 y0 y1 z0 z1 i : ℕ) → i < 8
     → x0 ≡ shared lo.x (hi.x + 1) (side (c.depth + 1)) (2 * c.x + 0)
@@ -478,21 +478,21 @@ pub shares_are : (lo hi : Voxel) (c : Cube) (x0 x1 y0 y1 z0 z1 i : ℕ) → i < 
     ≡ shared_in lo hi (child_of c i)
 unfolding child_of
 shares_are lo hi c x0 x1 y0 y1 z0 z1 zero l ex0 ex1 ey0 ey1 ez0 ez1 =
-    three ex0 ey0 ez0
+    products_agree ex0 ey0 ez0
 shares_are lo hi c x0 x1 y0 y1 z0 z1 (suc zero) l ex0 ex1 ey0 ey1 ez0 ez1 =
-    three ex1 ey0 ez0
+    products_agree ex1 ey0 ez0
 shares_are lo hi c x0 x1 y0 y1 z0 z1 (suc (suc zero)) l ex0 ex1 ey0 ey1 ez0 ez1 =
-    three ex0 ey1 ez0
+    products_agree ex0 ey1 ez0
 shares_are lo hi c x0 x1 y0 y1 z0 z1 (suc (suc (suc zero))) l ex0 ex1 ey0 ey1 ez0 ez1 =
-    three ex1 ey1 ez0
+    products_agree ex1 ey1 ez0
 shares_are lo hi c x0 x1 y0 y1 z0 z1 (suc (suc (suc (suc zero)))) l ex0 ex1 ey0 ey1 ez0 ez1 =
-    three ex0 ey0 ez1
+    products_agree ex0 ey0 ez1
 shares_are lo hi c x0 x1 y0 y1 z0 z1 (suc (suc (suc (suc (suc zero))))) l ex0 ex1 ey0 ey1 ez0 ez1 =
-    three ex1 ey0 ez1
+    products_agree ex1 ey0 ez1
 shares_are lo hi c x0 x1 y0 y1 z0 z1 (suc (suc (suc (suc (suc (suc zero)))))) l ex0 ex1 ey0 ey1 ez0
-    ez1 = three ex0 ey1 ez1
+    ez1 = products_agree ex0 ey1 ez1
 shares_are lo hi c x0 x1 y0 y1 z0 z1 (suc (suc (suc (suc (suc (suc (suc zero))))))) l ex0 ex1 ey0
-    ey1 ez0 ez1 = three ex1 ey1 ez1
+    ey1 ez0 ez1 = products_agree ex1 ey1 ez1
 shares_are lo hi c x0 x1 y0 y1 z0 z1 (suc (suc (suc (suc (suc (suc (suc (suc i)))))))) l ex0 ex1 ey0
     ey1 ez0 ez1 = absurd (omega (arith, l))
 

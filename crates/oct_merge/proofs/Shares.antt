@@ -84,11 +84,12 @@ own_number d n deep = ap (λ a. n * side a) deep ∙ once n
 own_voxel : (b : Cube) → b.depth ≡ 16
     → ◌≡◌ {A = Voxel} (lowest_voxel b) (record { x = b.x; y = b.y; z = b.z })
 own_voxel b deep =
-    three (own_number b.depth b.x deep) (own_number b.depth b.y deep) (own_number b.depth b.z deep)
+    products_agree (own_number b.depth b.x deep) (own_number b.depth b.y deep)
+    (own_number b.depth b.z deep)
   where
-    three : {x y z u v w : ℕ} → x ≡ u → y ≡ v → z ≡ w
+    products_agree : {x y z u v w : ℕ} → x ≡ u → y ≡ v → z ≡ w
         → ◌≡◌ {A = Voxel} (record { x = x; y = y; z = z }) (record { x = u; y = v; z = w })
-    three ex ey ez = rw (ex, ey, ez) refl
+    products_agree ex ey ez = rw (ex, ey, ez) refl
 
 one_listed : (p : Voxel → Bool) (k : Voxel) → count_by p (k ∷ []) ≡ cond {A = ℕ} (p k) 1 0
 one_listed p k =

@@ -1,14 +1,13 @@
 -- What is true of the map of a handle, as that of the handle.
-use Rattle.std.proofs.Common.{◌≡◌, ℕ, refl, sym, subst}
+use Rattle.std.proofs.Common.{◌≡◌, refl, sym, subst}
 use Rattle.std.specs.Prelude.{Some, Result, Ok}
 use Rattle.oct_map.specs.Map.{Map}
 use Rattle.oct_map.specs.declared.fault.MapFault.{MapFault}
-use Rattle.octofix.specs.Changed.{DoneFrom, IsAsked, IsDone, IsTold}
-use Rattle.octofix.specs.Codes.{answer_code, answer_details, of_map}
+use Rattle.octofix.specs.Changed.{DoneFrom, IsAsked, IsDone}
+use Rattle.octofix.specs.Codes.{of_map}
 use Rattle.octofix.specs.HandleLends.{open_with}
 use Rattle.octofix.specs.Handles.{Handle}
 use Rattle.octofix.specs.declared.refusal.Refusal.{Refusal}
-use Rattle.octofix.specs.declared.types.Details.{Details}
 
 -- what a call answers and leaves where there was a map
 pub done_open : {A : Type 0} (h : Handle) (m u : Map)
@@ -16,17 +15,6 @@ pub done_open : {A : Type 0} (h : Handle) (m u : Map)
     → h.slot.map ≡ Some m → R m u answer → IsDone h (open_with h u) R answer
 done_open h m u R answer is so =
     subst (λ o. DoneFrom o h (open_with h u) R answer) (sym is) (u, refl, so)
-
--- what is told of it
-pub told : {A : Type 0} (old new : Handle) (R : Map → Map → Result A Refusal → Type 0)
-    (answer : Result A Refusal) (code : ℕ) (named : Details) → IsDone old new R answer
-    → code ≡ answer_code answer → named ≡ answer_details answer → IsTold old new R code named
-told old new R answer code named done coded detailed = record {
-  answer = answer;
-  done = done;
-  coded = coded;
-  detailed = detailed;
-}
 
 -- what the map is asked
 pub asked_ok : {X A : Type 0} (request : Result X Refusal)
