@@ -102,8 +102,9 @@ lies_exactly lo hi b = (to, from)
 
 -- ---- three tests, one for each axis
 
-pub three : (a b c : Bool) → (a && b && c) ≡ true → (a ≡ true) × (b ≡ true) × (c ≡ true)
-three a b c h = (let z = and_parts (a && b) c h in let y = and_parts a b z.0 in (y.0, y.1, z.1))
+pub parts_of_three : (a b c : Bool) → (a && b && c) ≡ true → (a ≡ true) × (b ≡ true) × (c ≡ true)
+parts_of_three a b c h =
+    (let z = and_parts (a && b) c h in let y = and_parts a b z.0 in (y.0, y.1, z.1))
 
 pub three_pass : (a b c : Bool) → a ≡ true → b ≡ true → c ≡ true → (a && b && c) ≡ true
 three_pass a b c x y z = rw (x, y, z) refl
@@ -123,7 +124,7 @@ pub meets_each : (lo hi : Voxel) (b : Cube) (x y z : Bool) → IsBox lo hi
     → IsTrue x ↔ MeetsSpan lo.x hi.x b.depth b.x → IsTrue y ↔ MeetsSpan lo.y hi.y b.depth b.y
     → IsTrue z ↔ MeetsSpan lo.z hi.z b.depth b.z → IsTrue (x && y && z) ↔ MeetsBox lo hi b
 meets_each lo hi b x y z box ex ey ez = (
-  λ h. (let (hx, hy, hz) = three x y z h in
+  λ h. (let (hx, hy, hz) = parts_of_three x y z h in
       (meets_exactly lo hi b box).1 (record { x = ex.0 hx; y = ey.0 hy; z = ez.0 hz })),
   λ m. (let h = (meets_exactly lo hi b box).0 m in
       three_pass x y z (ex.1 h.x) (ey.1 h.y) (ez.1 h.z)),
@@ -133,7 +134,7 @@ pub lies_each : (lo hi : Voxel) (b : Cube) (x y z : Bool)
     → IsTrue x ↔ LiesInSpan lo.x hi.x b.depth b.x → IsTrue y ↔ LiesInSpan lo.y hi.y b.depth b.y
     → IsTrue z ↔ LiesInSpan lo.z hi.z b.depth b.z → IsTrue (x && y && z) ↔ LiesInBox lo hi b
 lies_each lo hi b x y z ex ey ez = (
-  λ h. (let (hx, hy, hz) = three x y z h in
+  λ h. (let (hx, hy, hz) = parts_of_three x y z h in
       (lies_exactly lo hi b).1 (record { x = ex.0 hx; y = ey.0 hy; z = ez.0 hz })),
   λ m. (let h = (lies_exactly lo hi b).0 m in three_pass x y z (ex.1 h.x) (ey.1 h.y) (ez.1 h.z)),
 )

@@ -8,11 +8,11 @@ use Rattle.oct_num.specs.Rounding.{half_up, distance, IsNearest}
 use Rattle.oct_num.proofs.Floor.{floor_low, floor_high}
 
 -- twice the divisor in a product
-twice : (k d : ℤ) → pos 1 ≤ℤ d → (k *ℤ (pos 2 *ℤ d)) ≡ pos 2 *ℤ (k *ℤ d)
-twice (pos a) (pos b) h = omega (arith, ints)
-twice (negsuc a) (pos b) h = omega (arith, ints)
-twice (pos a) (negsuc b) h = absurd (omega (arith, ints))
-twice (negsuc a) (negsuc b) h = absurd (omega (arith, ints))
+times_double : (k d : ℤ) → pos 1 ≤ℤ d → (k *ℤ (pos 2 *ℤ d)) ≡ pos 2 *ℤ (k *ℤ d)
+times_double (pos a) (pos b) h = omega (arith, ints)
+times_double (negsuc a) (pos b) h = omega (arith, ints)
+times_double (pos a) (negsuc b) h = absurd (omega (arith, ints))
+times_double (negsuc a) (negsuc b) h = absurd (omega (arith, ints))
 
 -- the products of two numbers are at least the divisor apart
 pub apart : (k m d : ℤ) → pos 1 ≤ℤ d → k <ℤ m → (k *ℤ d +ℤ d) ≤ℤ (m *ℤ d)
@@ -30,12 +30,13 @@ apart k m (negsuc d) p h = absurd (omega (arith, ints))
 -- below to less than half of it above
 pub half_up_low : (n d : ℤ) → pos 1 ≤ℤ d → (pos 2 *ℤ (half_up n d *ℤ d)) ≤ℤ (pos 2 *ℤ n +ℤ d)
 half_up_low n d h =
-    rw (twice (half_up n d) d h) at (floor_low (pos 2 *ℤ n +ℤ d) (pos 2 *ℤ d) (omega (arith, ints)))
+    rw (times_double (half_up n d) d h) at
+    (floor_low (pos 2 *ℤ n +ℤ d) (pos 2 *ℤ d) (omega (arith, ints)))
 
 pub half_up_high : (n d : ℤ) → pos 1 ≤ℤ d
     → (pos 2 *ℤ n +ℤ d) <ℤ (pos 2 *ℤ (half_up n d *ℤ d) +ℤ pos 2 *ℤ d)
 half_up_high n d h =
-    rw (twice (half_up n d) d h) at
+    rw (times_double (half_up n d) d h) at
     (floor_high (pos 2 *ℤ n +ℤ d) (pos 2 *ℤ d) (omega (arith, ints)))
 
 -- the size of the difference from one product is at most that from another one,

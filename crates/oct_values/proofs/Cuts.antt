@@ -11,7 +11,7 @@ use Rattle.oct_key.specs.Block.{Cube, IsBlock, side, lowest_voxel, root_block}
 use Rattle.oct_key.proofs.Blocks.{lowest_held, quotient_below}
 use Rattle.oct_values.specs.Blocks.{blocks_above_voxels}
 use Rattle.oct_key.specs.Boxes.{IsBox, MeetsBox, LiesInBox, MeetsSpan, LiesInSpan}
-use Rattle.oct_key.proofs.BoxBlocks.{meets_exactly, lies_exactly, three, three_pass}
+use Rattle.oct_key.proofs.BoxBlocks.{meets_exactly, lies_exactly, parts_of_three, three_pass}
 use Rattle.oct_values.specs.Boxes.{is_cut_by, box_need}
 use Rattle.oct_values.specs.Boxes.{met_on, within_on, cut_at}
 use Rattle.oct_values.proofs.Listed.{all_above_voxels}
@@ -79,7 +79,7 @@ lies_by lo hi b = passes (within_test lo.x hi.x) (within_test lo.y hi.y) (within
 meets_by_exactly : (lo hi : Voxel) (b : Cube) → IsBox lo hi
     → (meets_by lo hi b ≡ true) ↔ MeetsBox lo hi b
 meets_by_exactly lo hi b box = (
-  λ h. (let (x, y, z) = three _ _ _ h in
+  λ h. (let (x, y, z) = parts_of_three _ _ _ h in
       (meets_exactly lo hi b box).1
       (record {
         x = (met_exactly lo.x hi.x b.depth b.x).0 x;
@@ -93,7 +93,7 @@ meets_by_exactly lo hi b box = (
 
 lies_by_exactly : (lo hi : Voxel) (b : Cube) → (lies_by lo hi b ≡ true) ↔ LiesInBox lo hi b
 lies_by_exactly lo hi b = (
-  λ h. (let (x, y, z) = three _ _ _ h in
+  λ h. (let (x, y, z) = parts_of_three _ _ _ h in
       (lies_exactly lo hi b).1
       (record {
         x = (within_exactly lo.x hi.x b.depth b.x).0 x;
