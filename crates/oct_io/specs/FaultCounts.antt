@@ -1,7 +1,7 @@
 -- How often a source, a sink and a store failed, a sink ran out of memory, the end of an input was
 -- met, and a store was asked, beside how a call ended. Each count is given before and after the
 -- call.
-use Rattle.std.specs.Prelude.{◌≡◌, ◌≢◌, ◌⊎◌, ◌≤◌, ◌+◌, ℕ, Result, Err, OnOk, IsErrOf}
+use Rattle.std.specs.Prelude.{◌≡◌, ◌≢◌, ◌⊎◌, ◌≤◌, ◌+◌, ℕ, Result, Err, IsErrOf}
 use Rattle.oct_io.specs.Told.{Rose}
 use Rattle.oct_io.specs.declared.status.Status.{Status}
 use Rattle.oct_io.specs.declared.status.Status.TheVariants as status
@@ -34,22 +34,6 @@ pub record IsStoreCounted (ended : Status) (failures failures_after : ℕ) : Typ
   pub no_store_fault : ended ≢ status.StoreFault → failures_after ≡ failures
 
 -- ---- beside a result
-
--- of a call that answers lines: it may write to a sink, ask a store, and want memory of its own
-pub record IsStopCounted {T : Type 0} (result : Result T Stop)
-    (failures failures_after shortages shortages_after files files_after : ℕ) : Type 0 where
-  pub stays : OnOk result ((failures_after ≡ failures) × (shortages_after ≡ shortages)
-      × (files_after ≡ files))
-  pub failed : IsErrOf result stop.WriteFault → Rose failures failures_after
-      × (shortages_after ≡ shortages) × (files_after ≡ files)
-  pub memory : IsErrOf result stop.Memory → (failures_after ≡ failures)
-      × ((shortages_after ≡ shortages) ⊎ Rose shortages shortages_after) × (files_after ≡ files)
-  pub store_failed : IsErrOf result stop.StoreFault → (failures_after ≡ failures)
-      × (shortages_after ≡ shortages) × Rose files files_after
-  pub too_long : IsErrOf result stop.TooLong → (failures_after ≡ failures)
-      × (shortages_after ≡ shortages) × (files_after ≡ files)
-  pub unread : IsErrOf result stop.ReadFault → (failures_after ≡ failures)
-      × (shortages_after ≡ shortages) × (files_after ≡ files)
 
 -- of a call that reads a script, which fails for its source at most once, and meets its end at most
 -- once
