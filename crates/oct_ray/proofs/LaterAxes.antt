@@ -1,5 +1,5 @@
 -- An axis after some of its crossings, and those that it takes in a part of its segment.
-use Rattle.std.proofs.Common.{◌≡◌, ℕ, ◌+◌, ◌-◌, ◌*◌, ◌/◌, ◌^◌, ◌<◌, ◌≤◌, Bool, true, false, cond, refl}
+use Rattle.std.proofs.Common.{◌≡◌, ℕ, ◌+◌, ◌-◌, ◌*◌, ◌/◌, ◌<◌, ◌≤◌, Bool, true, false, cond, refl}
 use Rattle.std.proofs.Common.{arith, inl, inr}
 use Rattle.std.specs.Prelude.{min}
 use Rattle.std.proofs.lemmas.Bool.{cases_lt, le-leb, lt-leb}
@@ -96,13 +96,6 @@ within_left way a some h = elim (cases_lt way a.distance) [
       lt-div-mul-add some in
       rw one (omega (arith, high, more))
 ]
-
--- how far an axis is with crossings that it has
-pub taken_small : (a : Axis) (i : ℕ) → i ≤ a.crossings → HasRoom a
-    → a.distance + i * a.edge < 2 ^ 62
-taken_small a i h room =
-    let all = parted a.crossings i a.edge h in
-    omega (arith, room.small, all)
 
 -- just after this part of a segment, in 65536ths
 abbrev pub after_part : ℕ → Moment

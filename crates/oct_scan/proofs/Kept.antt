@@ -90,9 +90,6 @@ pub kept_without : (box : Window) (k : Voxel) (ks : List Voxel) → is_in_box bo
     → kept (Some box) (k ∷ ks) ≡ kept (Some box) ks
 kept_without box k ks h = without_first (is_in_box box.lo box.hi) k ks h
 
-pub kept_nothing : (box : Window) (ks : List Voxel) → ks ≡ [] → kept (Some box) ks ≡ []
-kept_nothing box ks none = ap (λ l. kept (Some box) l) none
-
 -- a list in the box, and one outside
 pub kept_all : (box : Window) (ks : List Voxel)
     → ((k : Voxel) → Contains ks k → IsInBox box.lo box.hi k) → kept (Some box) ks ≡ ks

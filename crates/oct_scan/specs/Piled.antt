@@ -1,5 +1,6 @@
--- How many bricks there may be of the codes that they have, and which of a table's places are taken.
-use Rattle.std.specs.Prelude.{◌≡◌, ◌≢◌, ℕ, ◌+◌, ◌*◌, ◌^◌, ◌≤◌, ◌⊎◌, ◌↔◌, nat_lt, All, AllPairs, Contains}
+-- How many bricks there may be of the codes that they have, and which places of a table are taken.
+use Rattle.std.specs.Prelude.{◌≡◌, ◌≢◌, ℕ, ◌+◌, ◌*◌, ◌^◌, ◌≤◌, ◌⊎◌, ◌↔◌, nat_lt, All, AllPairs}
+use Rattle.std.specs.Prelude.{Contains}
 use Rattle.std.specs.Prelude.{List, length, map, take}
 use Rattle.std.specs.List.{filter}
 use Rattle.oct_brick.specs.declared.brick.Brick.{Brick}
