@@ -1,5 +1,5 @@
 -- The cells of an occupancy grid of a map.
-use Rattle.std.specs.Prelude.{ℕ, ◌^◌, ℤ, nat_lt, List, Option, Some, None, Result, Ok, Err}
+use Rattle.std.specs.Prelude.{◌^◌, ℤ, nat_lt, List, Option, Some, None, Result, Ok, Err}
 use Rattle.std.specs.Prelude.{if◌then◌else◌}
 use Rattle.oct_export.specs.Grids.{cells_of, column_count}
 use Rattle.oct_key.specs.Boxes.{is_box}
