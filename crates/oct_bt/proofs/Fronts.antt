@@ -1,7 +1,6 @@
 -- A canonical file of which only a front is there.
 use Rattle.std.proofs.Common.{◌≡◌, pos, ◌^◌, ℕ, zero, suc, ◌+◌, ◌-◌, ◌<◌, ◌≤◌, Bool, true, false}
 use Rattle.std.proofs.Common.{Some, None, List, [], ◌∷◌, ◌++◌, length, take, drop, refl, sym, subst}
-use Rattle.std.proofs.Common.{Result}
 use Rattle.std.proofs.Common.{◌∙◌, ap, arith, Ok, Err, length-append, append_assoc}
 use Rattle.std.specs.Prelude.{codes, nat_eq, nat_lt, nat_le, not, ◌&&◌, fold}
 use Rattle.std.proofs.lemmas.Bool.{leb-true, leb-false, le-leb, and_parts, false≢true}
@@ -19,13 +18,13 @@ use Rattle.oct_bt.specs.NodeData.{judged, read_nodes}
 use Rattle.oct_num.specs.MetresText.{metres_text}
 use Rattle.oct_key.specs.Voxel.{IsResolution}
 use Rattle.oct_values.specs.Classes.{Classes}
-use Rattle.oct_bt.specs.declared.fault.BtFault.TheVariants.{NotOctomap, MissingField, Memory}
+use Rattle.oct_bt.specs.declared.fault.BtFault.TheVariants.{NotOctomap, MissingField}
 use Rattle.oct_bt.specs.declared.fault.HeaderWord.TheVariants.{Data}
 use Rattle.oct_bt.specs.Canonical.{canonical_data, canonical_size}
 use Rattle.oct_bt.specs.Header.{is_line_feed, is_data_line, first_line_fault, header_of}
 use Rattle.oct_bt.specs.Header.{header_at, data_line, lines_from, unless_faulty}
 use Rattle.oct_bt.specs.File.{text_of_lines, header_lines, header_text, bt_text, reading}
-use Rattle.oct_bt.specs.File.{FileRead, after_header, file_with, front_fault}
+use Rattle.oct_bt.specs.File.{after_header, file_with, front_fault}
 use Rattle.oct_bt.proofs.FilesBack.{HeaderTexts, header_texts, after_written}
 use Rattle.oct_bt.proofs.Sizes.{accepted_few}
 use Rattle.oct_bt.proofs.Standing.{canonical_accepted, canonical_reads}
@@ -215,15 +214,6 @@ front_unmarked front fault few mark =
 -- no bytes at all
 pub nothing_read : reading [] ≡ Err NotOctomap
 nothing_read = front_unmarked [] NotOctomap (omega arith) refl
-
--- what was read of some bytes isn't that memory ran out, where there are none
-pub memory_for_some : (bytes : List ℕ) (read : Result FileRead BtFault) → read ≡ reading bytes
-    → read ≡ Err Memory → bytes ≡ [] → ⊥
-memory_for_some bytes read is out none =
-    differ (sym out ∙ is ∙ ap reading none ∙ nothing_read)
-  where
-    differ : ◌≡◌ {A = Result FileRead BtFault} (Err Memory) (Err NotOctomap) → ⊥
-    differ e = cc
 
 -- one without a data line
 pub front_unended : (front : List ℕ) → length front < 65536 → first_line_fault front ≡ None

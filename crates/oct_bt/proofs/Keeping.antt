@@ -2,17 +2,22 @@
 use Rattle.std.proofs.Common.{◌≡◌, ℕ, ◌<◌, ◌+◌, Bool, true, false, List, [], ◌∷◌, ◌++◌, Result, Ok}
 use Rattle.std.proofs.Common.{Err, ◌⊎◌, inl, inr, ap, sym, refl, subst, ◌∙◌, arith, suc, length}
 use Rattle.std.proofs.Common.{take, drop, get_or, length-append}
-use Rattle.std.specs.Prelude.{fold, is_some, ◌&&◌, nat_lt, if◌then◌else◌}
+use Rattle.std.specs.Prelude.{fold, is_some, ◌&&◌, nat_eq, nat_lt, if◌then◌else◌}
 use Rattle.std.specs.Prelude.{Option, Some, None}
-use Rattle.std.proofs.lemmas.Bool.{false≢true}
+use Rattle.std.proofs.lemmas.Bool.{eqb-true, false≢true}
 use Rattle.std.proofs.lemmas.List.{take-append-drop}
 use Rattle.std.proofs.Math.Seq.{drop-cons}
 use Rattle.oct_bt.specs.declared.fault.BtFault.{BtFault}
-use Rattle.oct_bt.specs.Header.{Header, is_line_feed, is_data_line, line_of}
+use Rattle.oct_bt.specs.declared.fault.BtFault.TheVariants.{NotOctomap}
+use Rattle.oct_bt.specs.File.{FileRead, reading}
+use Rattle.oct_bt.specs.Header.{Header, is_line_feed, is_data_line, line_of, lines_from, header_of}
 use Rattle.oct_bt.specs.NodeData.{Reads, after_byte, data_kept, progress_by}
 use Rattle.oct_bt.specs.Reading.{FileProgress, Head, Heading, Refused, Body, Spent, IsKept}
 use Rattle.oct_bt.specs.Reading.{KeepsSome, after_file_byte, after_head_byte}
-use Rattle.oct_bt.specs.Reading.{bytes_kept, closed_head, ended_line, longer_line, opened}
+use Rattle.oct_bt.specs.Reading.{StandsFor, bytes_kept, closed_head, ended_line, file_progress}
+use Rattle.oct_bt.specs.Reading.{longer_line, opened, unended}
+use Rattle.oct_bt.proofs.Fronts.{nothing_read}
+use Rattle.oct_bt.proofs.HeadEnds.{never_spent}
 
 -- ---- one byte
 
@@ -105,12 +110,28 @@ kept_in_piece p q piece i within at (inr kept) = inr (
   subst (λ (r : FileProgress). IsKept r (get_or piece i 0)) at kept,
 )
 
--- an empty piece has none
-pub none_to_keep : (p : FileProgress) (piece : List ℕ) → (p ≡ Spent) ⊎ KeepsSome p piece
-    → piece ≡ [] → p ≡ Spent
-none_to_keep p piece (inl spent) none = spent
-none_to_keep p piece (inr (front, byte, rest, parts, kept)) none =
-    let long : length piece ≡ length front + suc (length rest) =
-    ap length parts ∙ length-append front (byte ∷ rest) in
-    let short : length piece ≡ 0 = ap length none in
-    absurd (omega (arith, long, short))
+-- ---- a file
+
+-- a reader that was fed nothing runs out of memory at a byte that it keeps
+pub kept_of_file : (p : FileProgress) (bytes : List ℕ) → (p ≡ Spent) ⊎ KeepsSome p bytes
+    → StandsFor p [] → KeepsSome (file_progress []) bytes
+kept_of_file p bytes (inl spent) new = absurd (never_spent [] (sym spent ∙ new))
+kept_of_file p bytes (inr keeps) new = subst (λ (q : FileProgress). KeepsSome q bytes) new keeps
+
+-- a file that is read has a byte to keep, its first one
+pub read_keeps : (bytes : List ℕ) (file : FileRead)
+    → ◌≡◌ {A = Result FileRead BtFault} (Ok file) (reading bytes)
+    → KeepsSome (file_progress []) bytes
+unfolding reading header_of file_progress unended lines_from
+read_keeps [] file is = absurd (differ (is ∙ nothing_read))
+  where
+    differ : ◌≡◌ {A = Result FileRead BtFault} (Ok file) (Err NotOctomap) → ⊥
+    differ e = cc
+read_keeps (b ∷ bs) file is = by_feed (nat_eq b 10) refl
+  where
+    differ : ◌≡◌ {A = Result FileRead BtFault} (Ok file) (reading (10 ∷ bs)) → ⊥
+    differ e = cc
+
+    by_feed : (feed : Bool) → nat_eq b 10 ≡ feed → KeepsSome (file_progress []) (b ∷ bs)
+    by_feed false other = ([], b, bs, refl, rw other (omega arith))
+    by_feed true feed = absurd (differ (is ∙ ap (λ c. reading (c ∷ bs)) (eqb-true b 10 feed)))

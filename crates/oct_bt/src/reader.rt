@@ -6,7 +6,7 @@ ghost use Rattle.oct_bt.specs.Canonical.{canonical_data};
 ghost use Rattle.oct_bt.specs.File.{reading, file_with};
 ghost use Rattle.oct_bt.specs.NodeData.{HasRead, IsDataOf, read_nodes};
 ghost use Rattle.oct_bt.specs.Reading.{FileProgress, IsKept, KeepsSome, Spent, StandsFor, opened};
-ghost use Rattle.oct_bt.specs.Reading.{after_file_byte};
+ghost use Rattle.oct_bt.specs.Reading.{after_file_byte, file_progress};
 ghost use Rattle.oct_bt.specs.Holding.{progress_of};
 
 use crate::bt_file::BtFile;
@@ -154,10 +154,10 @@ fn end_body(header: &Header, nodes: NodeReader) -> Result<BtFile, BtFault>
 }
 
 /// The file of classes that these bytes are, or what is wrong with them. Memory runs out only where
-/// there is a byte.
+/// a byte of them is kept.
 pub fn read_classes(alloc: Global, bytes: &[u8]) -> Result<BtFile, BtFault>
     ensures answer { (result ≡ reading bytes.now) ⊎ (result ≡ Err BtFault.Memory) }
-    ensures memory { result ≡ Err BtFault.Memory → bytes.now ≡ [] → ⊥ }
+    ensures memory { result ≡ Err BtFault.Memory → KeepsSome (file_progress []) bytes.now }
 {
     let mut reader = Reader::new(alloc);
     reader.feed(bytes)?;

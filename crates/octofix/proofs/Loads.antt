@@ -1,8 +1,9 @@
 -- What a file is answered that was read, and that the map refuses.
 use Rattle.std.proofs.Common.{◌≡◌, ℕ, List, [], ap, ◌∙◌, inl, inr}
 use Rattle.std.specs.Prelude.{◌⊎◌, ⊤, Result, Ok, Err}
-use Rattle.oct_bt.proofs.Fronts.{nothing_read}
+use Rattle.oct_bt.proofs.Keeping.{read_keeps}
 use Rattle.oct_bt.specs.File.{FileRead, reading}
+use Rattle.oct_bt.specs.Reading.{KeepsSome, file_progress}
 use Rattle.oct_bt.specs.Records.{record_total}
 use Rattle.oct_bt.specs.declared.fault.BtFault.{BtFault}
 use Rattle.oct_bt.specs.declared.fault.BtFault.TheVariants as bt
@@ -16,14 +17,6 @@ use Rattle.octofix.specs.Files.{load_by, loading}
 use Rattle.octofix.specs.declared.refusal.Refusal.{Refusal}
 use Rattle.octofix.specs.declared.refusal.Refusal.TheVariants as refusal
 
--- a file that was read has some byte
-some_read : (bytes : List ℕ) (file : FileRead)
-    → ◌≡◌ {A = Result FileRead BtFault} (Ok file) (reading bytes) → bytes ≡ [] → ⊥
-some_read bytes file read none = differ (read ∙ ap reading none ∙ nothing_read)
-  where
-    differ : ◌≡◌ {A = Result FileRead BtFault} (Ok file) (Err bt.NotOctomap) → ⊥
-    differ e = cc
-
 -- what the map refuses of a file that was read is the answer to its bytes, or memory ran out
 pub refused_file : (bytes : List ℕ) (m : Map) (file : FileRead) (fault : MapFault)
     (result : Result ⊤ Refusal)
@@ -31,11 +24,11 @@ pub refused_file : (bytes : List ℕ) (m : Map) (file : FileRead) (fault : MapFa
     ⊎ (◌≡◌ {A = Result FileRead BtFault} (Ok file) (Err bt.Memory))
     → IsAnswerOrMemory (load_answer (ground_of m) file.res (record_total file.codes)) (Err fault)
     → result ≡ Err (refusal.Map fault)
-    → IsReached (loading bytes m) (bytes ≡ [] → ⊥) result
+    → IsReached (loading bytes m) (KeepsSome (file_progress []) bytes) result
 refused_file bytes m file fault result (inl read) (inl at) is =
     inl (is ∙ ap of_map at ∙ ap (load_by m) read)
 refused_file bytes m file fault result (inl read) (inr out) is =
-    inr (is ∙ ap of_map out, some_read bytes file read)
+    inr (is ∙ ap of_map out, read_keeps bytes file read)
 refused_file bytes m file fault result (inr other) answer is = absurd (differ other)
   where
     differ : ◌≡◌ {A = Result FileRead BtFault} (Ok file) (Err bt.Memory) → ⊥

@@ -1,6 +1,7 @@
 -- Files of maps, as bytes.
 use Rattle.std.specs.Prelude.{◌≡◌, ℕ, List, [], IfOk, IsSome, ⊤, Option, Result, Ok, Err}
 use Rattle.oct_bt.specs.File.{FileRead, reading}
+use Rattle.oct_bt.specs.Reading.{KeepsSome, file_progress}
 use Rattle.oct_bt.specs.Records.{record_total}
 use Rattle.oct_bt.specs.declared.fault.BtFault.{BtFault}
 use Rattle.oct_map.specs.Loads.{load_answer, IsMapLoaded}
@@ -20,9 +21,9 @@ load_by m (Ok file) = of_map (load_answer (ground_of m) file.res (record_total f
 abbrev pub loading : List ℕ → Map → Result ⊤ Refusal
 loading bytes m = load_by m (reading bytes)
 
--- memory runs out for a file of these bytes only where there is a map, and a byte
+-- memory runs out for a file of these bytes only where there is a map, and a byte that is kept
 abbrev pub MayTakeMemory : Option Map → List ℕ → Type 0
-MayTakeMemory handle bytes = IsSome handle × (bytes ≡ [] → ⊥)
+MayTakeMemory handle bytes = IsSome handle × KeepsSome (file_progress []) bytes
 
 -- the answer to a snapshot of these bytes: how many groups its values need
 abbrev pub restoring : List ℕ → Map → Result ℕ Refusal

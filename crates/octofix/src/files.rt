@@ -1,6 +1,7 @@
 //! Files of maps and snapshots, as bytes.
 ghost use Rattle.std.specs.Prelude.{◌≡◌, ◌≢◌, ◌≤◌, [], length, Ok};
 ghost use Rattle.std.specs.Prelude.{OnOk, OnErr};
+ghost use Rattle.oct_bt.specs.Reading.{KeepsSome, file_progress};
 ghost use Rattle.oct_map.specs.Files.{file_of, snapshot_of};
 ghost use Rattle.octofix.specs.Asked.{IsAnswered, IsReached, asked};
 ghost use Rattle.octofix.specs.Buffers.{HasFit, IsListTold, filled, room_code};
@@ -66,7 +67,8 @@ fn snapshot(map: &OccMap, bytes: &mut [u8], len: &mut usize) -> u32
 
 /// Gives each voxel the value of its class in the binary file of these bytes.
 fn load(alloc: Global, map: &mut OccMap, bytes: &[u8]) -> Result<(), Refusal>
-    ensures answer { IsReached (loading bytes.now map.old) (bytes.now ≡ [] → ⊥) result }
+    ensures answer { IsReached (loading bytes.now map.old)
+        (KeepsSome (file_progress []) bytes.now) result }
     ensures loaded { OnOk result (IsLoadedFrom bytes.now map.old map.new) }
     ensures refused { OnErr result (map.new ≡ map.old) }
 {
