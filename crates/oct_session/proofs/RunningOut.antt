@@ -3,10 +3,11 @@ use Rattle.std.specs.Prelude.{⊤, List}
 use Rattle.std.proofs.Common.{◌≡◌, ℕ, [], ◌∷◌, ◌⊎◌, inl, inr, zero, suc, IsSome, Result, Ok}
 use Rattle.std.proofs.Common.{Err, IsOk, OnErr, refl, ap, sym, subst, ◌∙◌, false, arith}
 use Rattle.std.proofs.lemmas.Result.{on_err_weaker}
+use Rattle.oct_bt.proofs.Keeping.{read_keeps}
 use Rattle.oct_bt.specs.File.{FileRead, reading}
+use Rattle.oct_bt.specs.Reading.{KeepsSome, file_progress}
 use Rattle.oct_bt.specs.declared.fault.BtFault.{BtFault}
 use Rattle.oct_bt.specs.declared.fault.BtFault.TheVariants as bt_fault
-use Rattle.oct_bt.proofs.Fronts.{nothing_read}
 use Rattle.oct_key.specs.declared.point.Point.{Point}
 use Rattle.oct_scan.specs.Beam.{Sighting}
 use Rattle.oct_scan.specs.Outcome.{TakesMemory}
@@ -81,16 +82,16 @@ pub kind_runs_out : {A E : Type 0} (r : Result A E) (m : Map) (k read : Kind) �
     → OnErr r (KindTakesMemory m read) → OnErr r (KindTakesMemory m k)
 kind_runs_out r m k read is short = on_err_weaker r (subst (KindTakesMemory m) is) short
 
--- a file was read of some bytes
+-- a file was read of bytes of which some is kept
 pub read_of_some : (file : FileRead) (bytes : List ℕ) →
     (◌≡◌ {A = Result FileRead BtFault} (Ok file) (reading bytes))
     ⊎ (◌≡◌ {A = Result FileRead BtFault} (Ok file) (Err bt_fault.Memory))
-    → bytes ≡ [] → ⊥
-read_of_some file bytes (inl is) none = differ (is ∙ ap reading none ∙ nothing_read)
+    → KeepsSome (file_progress []) bytes
+read_of_some file bytes (inl is) = read_keeps bytes file is
+read_of_some file bytes (inr memory) = absurd (differ memory)
   where
-    differ : ◌≡◌ {A = Result FileRead BtFault} (Ok file) (Err bt_fault.NotOctomap) → ⊥
+    differ : ◌≡◌ {A = Result FileRead BtFault} (Ok file) (Err bt_fault.Memory) → ⊥
     differ e = cc
-read_of_some file bytes (inr memory) none = cc
 
 -- a snapshot that is accepted, and not as one of no groups, has a group
 pub has_groups : (r : Result ℕ MapFault) → IsOk r → (r ≡ Ok 0 → ⊥) → HasGroups r

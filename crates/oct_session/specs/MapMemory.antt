@@ -2,6 +2,7 @@
 -- Elsewhere it can't run out of it.
 use Rattle.std.specs.Prelude.{◌≡◌, ◌⊎◌, ◌<◌, ℕ, List, [], ◌∷◌, ⊤, Result, Ok, IsOk, is_some, false}
 use Rattle.oct_bt.specs.File.{FileRead}
+use Rattle.oct_bt.specs.Reading.{KeepsSome, file_progress}
 use Rattle.oct_bt.specs.Records.{record_total}
 use Rattle.oct_io.specs.declared.store.Loaded.{Loaded}
 use Rattle.oct_io.specs.declared.store.Loaded.TheVariants.{Bytes}
@@ -68,9 +69,9 @@ ReadingTakesMemory m file =
     IsOk (load_answer (ground_of m) file.res (record_total file.codes))
     × (0 < record_total file.codes)
 
--- what a store has does for a load: a file in which there is a byte to read
+-- what a store has does for a load: a file of which a reader keeps some byte
 abbrev pub LoadTakesMemory : Loaded → Type 0
-LoadTakesMemory (Bytes bytes) = bytes ≡ [] → ⊥
+LoadTakesMemory (Bytes bytes) = KeepsSome (file_progress []) bytes
 LoadTakesMemory _ = ⊥
 
 -- a snapshot is answered that has a group

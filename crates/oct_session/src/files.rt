@@ -2,6 +2,7 @@
 //! from it.
 ghost use Rattle.std.specs.Prelude.{◌≡◌, [], Ok, OnErr, Some};
 ghost use Rattle.oct_bt.specs.File.{reading};
+ghost use Rattle.oct_bt.specs.Reading.{KeepsSome, file_progress};
 ghost use Rattle.oct_snap.specs.Reading.{read_snapshot};
 ghost use Rattle.oct_session.specs.FileCommands.{load_action, load_reply, reading_action};
 ghost use Rattle.oct_session.specs.FileCommands.{reading_reply};
@@ -60,7 +61,7 @@ fn load_bytes(
 ) -> Result<(), Memory>
     ensures done { HasDone (λ s. reading_reply s.base (reading bytes.now))
         (λ s. reading_action (reading bytes.now)) map.old map.new (with_reply result reply.new) }
-    ensures memory { OnErr result (bytes.now ≡ [] → ⊥) }
+    ensures memory { OnErr result (KeepsSome (file_progress []) bytes.now) }
 {
     match read_classes(alloc, bytes) {
         Ok(file) => replace(map, &file, reply),
