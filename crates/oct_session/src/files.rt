@@ -28,7 +28,8 @@ fn save<K: Sink, F: Store>(
     name: &Name,
     reply: &mut Option<Reply>,
 ) -> Result<(), StoreFault>
-    ensures { UsesFile F.Store FileVerb.Save name.now lent.old lent.new result reply.new }
+    ensures uses { UsesFile F.Store FileVerb.Save name.now lent.old lent.new result reply.new }
+    ensures kept { lent.new.map.now ≡ lent.old.map.now }
 {
     let file = lent.map.to_bt()?;
     let bytes = file.as_slice();
@@ -116,7 +117,8 @@ fn snapshot<K: Sink, F: Store>(
     name: &Name,
     reply: &mut Option<Reply>,
 ) -> Result<(), StoreFault>
-    ensures { UsesFile F.Store FileVerb.Snapshot name.now lent.old lent.new result reply.new }
+    ensures uses { UsesFile F.Store FileVerb.Snapshot name.now lent.old lent.new result reply.new }
+    ensures kept { lent.new.map.now ≡ lent.old.map.now }
 {
     let file = lent.map.to_snapshot()?;
     let bytes = file.as_slice();

@@ -8,8 +8,8 @@ use Rattle.oct_session.proofs.Effects.{unasked}
 use Rattle.oct_session.proofs.Loading.{classes_saved, save_done, save_failed, save_unwritten}
 use Rattle.oct_session.proofs.files.save.Goals as goal
 
-pub returns-in_err-file : goal.returns-in_err-file
-returns-in_err-file g c = record {
+pub returns-in_err-file-clause-uses : goal.returns-in_err-file-clause-uses
+returns-in_err-file-clause-uses g c = record {
   took = save_unwritten (Some (Puts c.args.name.now classes_file))
       (with_reply c.from_residual.result c.args.reply.now) c.args.lent.now.map.now _
       c.args.name.now classes_file
@@ -23,8 +23,8 @@ returns-in_err-file g c = record {
   sink = refl;
 }
 
-pub returns-in_err-save : goal.returns-in_err-save
-returns-in_err-save g c = record {
+pub returns-in_err-save-clause-uses : goal.returns-in_err-save-clause-uses
+returns-in_err-save-clause-uses g c = record {
   took = save_failed (Some (Puts c.args.name.now classes_file))
       (with_reply c.from_residual-in_err-save.result c.args.reply.now) _ c.args.lent.now.map.now
       _ _ c.as_str.result.now c.args.name.now classes_file refl refl c.as_str.ensures
@@ -39,8 +39,8 @@ returns-in_err-save g c = record {
   sink = refl;
 }
 
-pub returns : goal.returns
-returns g c = record {
+pub returns-clause-uses : goal.returns-clause-uses
+returns-clause-uses g c = record {
   took = save_done (Some (Puts c.args.name.now classes_file)) c.args.lent.now.map.now _ _
       c.as_str.result.now c.args.name.now c.as_slice-bytes.result.now _ classes_file
       c.as_str.ensures
