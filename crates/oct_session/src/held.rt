@@ -20,15 +20,10 @@ pub fn tell(text: &mut Vec<u8>, reply: &Option<Reply>) -> Result<(), Memory>
     ensures err { OnErr result (IsSome reply.now) }
     ensures kept { OnErr result (text.new.items ≡ text.old.items) }
 {
-    let Some(reply) = reply else {
-        return Ok(());
-    };
-    let held = text.len();
-    if push_reply(text, reply).is_err() {
-        text.truncate(held);
-        return Err(Memory);
+    match reply {
+        Some(reply) => push_reply(text, reply),
+        None => Ok(()),
     }
-    Ok(())
 }
 
 /// Writes the replies that are held. None is held afterwards, also after an error.
