@@ -10,10 +10,9 @@ ghost use Rattle.oct_scan.specs.Gathered.{HoldCodes};
 ghost use Rattle.oct_scan.specs.Update.{listed, IsSettled, IsMadeOfBricks, IsUpdateOf, IsOutcomeOf};
 ghost use Rattle.oct_scan.specs.Update.{IsWithinLimit, IsRefusal};
 
-use crate::beam::beams_of;
 use crate::cells::gather;
 use crate::fault::ScanFault;
-use crate::judge::judge;
+use crate::judge::judged_beams;
 use crate::need::count_blocks;
 use crate::scan::Scan;
 use oct_brick::{Brick, merge_bricks};
@@ -82,7 +81,7 @@ impl UpdateBricks {
 /// A scan is refused first where its origin lies outside the map, then for the first beam that ends
 /// outside, and then for the first beam with which the beams meet too many voxels, where a voxel
 /// counts once for each beam that meets it. None of the three looks at the box. A scan that is
-/// refused takes no memory, and neither does one without points.
+/// refused doesn't run out of memory, and one without points takes none.
 pub fn update_bricks(
     alloc: Global,
     scan: &Scan,
@@ -111,8 +110,7 @@ pub fn update_bricks(
     let Some(start) = res.key_of(origin) else {
         return Err(ScanFault::OriginOutside);
     };
-    judge(scan, res, start, max_cells)?;
-    let beams = beams_of(alloc, scan, res)?;
+    let beams = judged_beams(alloc, scan, res, start, max_cells)?;
     let bricks = gather(alloc, res, origin, start, &beams, &window)?;
     let set = merge_update(alloc, bricks)?;
     Ok(set)

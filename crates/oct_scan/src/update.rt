@@ -63,7 +63,7 @@ impl UpdateSet {
 /// A scan is refused first where its origin lies outside the map, then for the first beam that ends
 /// outside, and then for the first beam with which the beams meet too many voxels, where a voxel
 /// counts once for each beam that meets it. None of the three looks at the box. A scan that is
-/// refused takes no memory, and neither does one without points.
+/// refused doesn't run out of memory, and one without points takes none.
 pub fn update_set(
     alloc: Global,
     scan: &Scan,

@@ -1,46 +1,30 @@
-use Rattle.std.proofs.Common.{◌≡◌, ◌+◌, ◌≤◌, Some, refl, sym, subst, rules}
-use Rattle.std.specs.Prelude.{IsSome, IsNone, min}
+use Rattle.std.proofs.Common.{◌≡◌, ◌+◌, ◌≤◌, sym, subst, rules, arith}
+use Rattle.std.specs.Prelude.{min}
 use Rattle.std.proofs.Math.Nat.{min-le_right}
-use Rattle.oct_key.specs.Voxel.{IsResolution, key_at}
-use Rattle.oct_scan.specs.Beam.{sighting_of}
-use Rattle.oct_scan.proofs.OutsideEnds.{outside_at, none_outside}
-use Rattle.oct_scan.proofs.Judging.{beams_to, bound_more, inside_more}
+use Rattle.oct_scan.proofs.Judging.{bound_none, bound_more, bound_all}
 use Rattle.oct_scan.proofs.judge.bound_met.Goals as goal
 
-pub returns-in_default-clause-err : goal.returns-in_default-clause-err
-returns-in_default-clause-err c =
-    let none : IsNone (key_at c.args.res c.beam_to-beam.result.end) = search rules in
-    outside_at c.args.res (sighting_of c.args.scan.now) c.as_slice-point-items.result.now
-    (beams_to (sighting_of c.args.scan.now) c.as_slice-point-items.result.now c.loop-index.index)
-    c.loop-index.index c.beam_to-beam.result _ c.as_slice-point-items.ensures
-    c.loop-index-test.true refl c.loop-index.invariant.inside c.beam_to-beam.ensures none
+pub loop-beam-init : goal.loop-beam-init
+loop-beam-init c = record {
+  within = λ edge o range key placed few. bound_none edge o c.args.beams.now;
+  few = omega arith;
+}
 
-pub loop-index-preserved : goal.loop-index-preserved
-loop-index-preserved c =
-    let range : IsResolution c.args.res = search rules in
-    let key : key_at c.args.res c.beam_to-beam.result.end ≡ Some c.in-Some.end =
-    sym c.in-Some.ensures.exact in
-    let some : IsSome (key_at c.args.res c.beam_to-beam.result.end) = rw key refl in
+pub loop-beam-preserved : goal.loop-beam-preserved
+loop-beam-preserved c =
     let capped : c.min-bound.result
-    ≡ min (c.loop-index.bound + c.most_met.result) (c.args.most + 1) = search rules in
-    let low : c.min-bound.result ≤ c.args.most + 1 =
-    subst (λ n. n ≤ c.args.most + 1) (sym capped)
-    (min-le_right (c.loop-index.bound + c.most_met.result) (c.args.most + 1)) in
+    ≡ min (c.loop-beam.bound + c.most_met.result) (c.args.most + 1) = search rules in
     record {
-      inside = inside_more c.args.res (sighting_of c.args.scan.now)
-          c.as_slice-point-items.result.now c.loop-index.index c.beam_to-beam.result _
-          c.loop-index-test.true c.beam_to-beam.ensures c.loop-index.invariant.inside some;
-      within = bound_more c.args.res (sighting_of c.args.scan.now)
-          c.as_slice-point-items.result.now c.loop-index.index c.beam_to-beam.result _
-          c.args.start c.in-Some.end c.loop-index.bound c.most_met.result c.min-bound.result
-          c.args.most range c.loop-index-test.true c.beam_to-beam.ensures c.requires.start key
-          c.most_met.ensures capped c.loop-index.invariant.within;
-      few = low;
+      within = λ edge o range key placed. bound_more edge o c.args.beams.now
+          c.loop-beam.beam-index _ c.args.start c.loop-beam.bound c.most_met.result
+          c.min-bound.result c.args.most range c.loop-beam-test.true key placed
+          c.most_met.ensures.exact capped (c.loop-beam.invariant.within edge o range key placed);
+      few = subst (λ n. n ≤ c.args.most + 1) (sym capped)
+          (min-le_right (c.loop-beam.bound + c.most_met.result) (c.args.most + 1));
     }
 
-pub returns-clause-inside : goal.returns-clause-inside
-returns-clause-inside c =
-    none_outside c.args.res (sighting_of c.args.scan.now) c.as_slice-point-items.result.now
-    (beams_to (sighting_of c.args.scan.now) c.as_slice-point-items.result.now c.loop-index.index)
-    c.loop-index.index c.as_slice-point-items.ensures c.loop-index-test.false refl
-    c.loop-index.invariant.inside
+pub returns : goal.returns
+returns c = λ edge o range key placed few.
+    bound_all edge o c.args.beams.now c.loop-beam.beam-index c.loop-beam.bound
+    (omega (arith, c.loop-beam-test.false))
+    (c.loop-beam.invariant.within edge o range key placed few)
