@@ -15,6 +15,7 @@ use crate::fault::ScanFault;
 use crate::judge::judged_beams;
 use crate::need::count_blocks;
 use crate::scan::Scan;
+use crate::sensor_view::SensorView;
 use oct_brick::{Brick, merge_bricks};
 use oct_key::{Res, Window};
 use oct_num::Memory;
@@ -111,7 +112,13 @@ pub fn update_bricks(
         return Err(ScanFault::OriginOutside);
     };
     let beams = judged_beams(alloc, scan, res, start, max_cells)?;
-    let bricks = gather(alloc, res, origin, start, &beams, &window)?;
+    let view = SensorView {
+        res,
+        origin,
+        start,
+        window,
+    };
+    let bricks = gather(alloc, &view, &beams)?;
     let set = merge_update(alloc, bricks)?;
     Ok(set)
 }

@@ -18,27 +18,20 @@ use crate::beam::PlacedBeam;
 use crate::code_box::CodeBox;
 use crate::entry::{is_passed_by, walk_to_box};
 use crate::order::{LEAST_KEYED, MOST_KEYED, sorted_keys};
+use crate::sensor_view::SensorView;
 use crate::table::BrickTable;
 use oct_brick::Brick;
-use oct_key::{Key, Point, Res, Window, from_morton, morton};
+use oct_key::{Key, Window, from_morton, morton};
 use oct_num::Memory;
 use oct_ray::{BeamWalk, Walk};
 use std::alloc::Global;
 
 /// What beams from one origin change, brick by brick, in the box where one stands. They all lie in
 /// the map.
-pub fn gather(
-    alloc: Global,
-    res: Res,
-    origin: Point,
-    start: Key,
-    beams: &[PlacedBeam],
-    window: &Option<Window>,
-) -> Result<Vec<Brick>, Memory>
-    requires start { key_at res origin ≡ Some start }
-    requires placed { All (IsPlaced res) beams.now }
-    ensures gathered { IfOk result (λ bricks.
-        HoldAllGathered res window.now origin (bare beams.now) bricks.items) }
+pub fn gather(alloc: Global, view: &SensorView, beams: &[PlacedBeam]) -> Result<Vec<Brick>, Memory>
+    requires placed { All (IsPlaced view.now.res) beams.now }
+    ensures gathered { IfOk result (λ bricks. HoldAllGathered view.now.res view.now.window
+        view.now.origin (bare beams.now) bricks.items) }
     ensures bricks { IfOk result (λ bricks. All IsBrick bricks.items) }
     ensures few { IfOk result (λ bricks. (n : ℕ) × AreFew n bricks.items) }
     ensures memory { OnErr result (0 < length beams.now) }
@@ -46,96 +39,85 @@ pub fn gather(
     if beams.is_empty() {
         return Ok(Vec::new(alloc));
     }
-    let count = beams.len() as u64;
-    if LEAST_KEYED <= count && count <= MOST_KEYED {
-        let mut bricks = BrickTable::for_beams(alloc, count)?;
-        let keys = sorted_keys(alloc, beams)?;
-        add_by_keys(&mut bricks, res, origin, start, beams, &keys, window)?;
-        let gathered = bricks.into_bricks()?;
-        Ok(gathered)
-    } else {
-        let mut bricks = BrickTable::sparse(alloc);
-        add_beams(&mut bricks, res, origin, start, beams, window)?;
-        let list = bricks.into_bricks()?;
-        Ok(list)
-    }
+    let mut bricks = BrickTable::for_beams(alloc, view.start, beams)?;
+    add_beams(alloc, &mut bricks, view, beams)?;
+    let gathered = bricks.into_bricks()?;
+    Ok(gathered)
 }
 
-/// Adds what beams from one voxel change, in the order of their keys: beams that pass the same
-/// bricks mostly come one after another.
+/// Adds what beams change, in an order in which those that pass the same bricks mostly come one
+/// after another.
+fn add_beams(
+    alloc: Global,
+    bricks: &mut BrickTable,
+    view: &SensorView,
+    beams: &[PlacedBeam],
+) -> Result<(), Memory>
+    requires placed { All (IsPlaced view.now.res) beams.now }
+    requires none { bricks.old ≡ [] }
+    ensures gathered { OnOk result (HoldAllGathered view.now.res view.now.window view.now.origin
+        (bare beams.now) bricks.new) }
+    ensures bricks { OnOk result (All IsBrick bricks.new) }
+    ensures memory { OnErr result (0 < length beams.now) }
+{
+    let count = beams.len() as u64;
+    if count < LEAST_KEYED || MOST_KEYED < count {
+        return add_in_order(bricks, view, beams);
+    }
+    let keys = sorted_keys(alloc, beams)?;
+    add_by_keys(bricks, view, beams, &keys)
+}
+
+/// Adds what beams change, in the order of their keys.
 fn add_by_keys(
     bricks: &mut BrickTable,
-    res: Res,
-    origin: Point,
-    start: Key,
+    view: &SensorView,
     beams: &[PlacedBeam],
     keys: &[u64],
-    window: &Option<Window>,
 ) -> Result<(), Memory>
-    requires start { key_at res origin ≡ Some start }
-    requires placed { All (IsPlaced res) beams.now }
+    requires placed { All (IsPlaced view.now.res) beams.now }
     requires keys { AreKeys beams.now keys.now }
     requires none { bricks.old ≡ [] }
-    ensures gathered { OnOk result (HoldAllGathered res window.now origin (bare beams.now)
-        bricks.new) }
+    ensures gathered { OnOk result (HoldAllGathered view.now.res view.now.window view.now.origin
+        (bare beams.now) bricks.new) }
     ensures bricks { OnOk result (All IsBrick bricks.new) }
     ensures memory { OnErr result (0 < length beams.now) }
 {
     for &key in keys {
-        add_beam(
-            bricks,
-            res,
-            origin,
-            start,
-            beams[(key % MOST_KEYED) as usize],
-            window,
-        )?;
+        add_beam(bricks, view, beams[(key % MOST_KEYED) as usize])?;
     }
     Ok(())
 }
 
 /// The same for beams that are too few or too many for keys, in their own order.
-fn add_beams(
+fn add_in_order(
     bricks: &mut BrickTable,
-    res: Res,
-    origin: Point,
-    start: Key,
+    view: &SensorView,
     beams: &[PlacedBeam],
-    window: &Option<Window>,
 ) -> Result<(), Memory>
-    requires start { key_at res origin ≡ Some start }
-    requires placed { All (IsPlaced res) beams.now }
+    requires placed { All (IsPlaced view.now.res) beams.now }
     requires none { bricks.old ≡ [] }
-    ensures gathered { OnOk result (HoldAllGathered res window.now origin (bare beams.now)
-        bricks.new) }
+    ensures gathered { OnOk result (HoldAllGathered view.now.res view.now.window view.now.origin
+        (bare beams.now) bricks.new) }
     ensures bricks { OnOk result (All IsBrick bricks.new) }
     ensures memory { OnErr result (0 < length beams.now) }
 {
-    for beam in beams {
-        add_beam(bricks, res, origin, start, *beam, window)?;
+    for &beam in beams {
+        add_beam(bricks, view, beam)?;
     }
     Ok(())
 }
 
 /// Adds what a beam changes in the box, where one stands.
-fn add_beam(
-    bricks: &mut BrickTable,
-    res: Res,
-    origin: Point,
-    start: Key,
-    beam: PlacedBeam,
-    window: &Option<Window>,
-) -> Result<(), Memory>
-    requires start { key_at res origin ≡ Some start }
-    requires placed { IsPlaced res beam }
+fn add_beam(bricks: &mut BrickTable, view: &SensorView, beam: PlacedBeam) -> Result<(), Memory>
+    requires placed { IsPlaced view.now.res beam }
     requires bricks { All IsBrick bricks.old }
-    ensures added { OnOk result ((met : ℕ) × IsBeamHeld res window.now origin (bare_beam beam) met
-        bricks.old bricks.new) }
+    ensures added { OnOk result ((met : ℕ) × IsBeamHeld view.now.res view.now.window
+        view.now.origin (bare_beam beam) met bricks.old bricks.new) }
     ensures bricks { OnOk result (All IsBrick bricks.new) }
 {
-    let end = beam.voxel;
-    push_kept(bricks, res, origin, beam.end, start, end, window)?;
-    push_end(bricks, morton(end), is_mute(window, beam))?;
+    push_kept(bricks, view, beam)?;
+    push_end(bricks, morton(beam.voxel), is_mute(&view.window, beam))?;
     Ok(())
 }
 
@@ -152,29 +134,16 @@ fn is_mute(window: &Option<Window>, beam: PlacedBeam) -> bool
 }
 
 /// Adds the voxels of a beam but that of the end, as far as they lie in the box, where one stands.
-fn push_kept(
-    bricks: &mut BrickTable,
-    res: Res,
-    origin: Point,
-    target: Point,
-    start: Key,
-    end: Key,
-    window: &Option<Window>,
-) -> Result<(), Memory>
-    requires start { key_at res origin ≡ Some start }
-    requires end { key_at res target ≡ Some end }
-    requires way { IsWay start end (met_by res origin target) }
+fn push_kept(bricks: &mut BrickTable, view: &SensorView, beam: PlacedBeam) -> Result<(), Memory>
+    requires placed { IsPlaced view.now.res beam }
+    requires way { IsWay view.now.start beam.voxel (met_by view.now.res view.now.origin beam.end) }
     requires bricks { All IsBrick bricks.old }
-    ensures { OnOk result (IsWayAdded window.now (morton_of end) (met_by res origin target)
-        bricks.old bricks.new) }
+    ensures { OnOk result (IsWayAdded view.now.window (morton_of beam.voxel)
+        (met_by view.now.res view.now.origin beam.end) bricks.old bricks.new) }
 {
-    match window {
-        None => push_way(
-            bricks,
-            Walk::between(res, origin, target, start, end),
-            morton(end),
-        ),
-        Some(window) => push_part(bricks, res, origin, target, start, end, window),
+    match view.window {
+        None => push_way(bricks, view.walk(beam), morton(beam.voxel)),
+        Some(window) => push_part(bricks, view, beam, &window),
     }
 }
 
@@ -182,31 +151,22 @@ fn push_kept(
 /// that passes it by has one there. Any other is walked from where it comes to the box.
 fn push_part(
     bricks: &mut BrickTable,
-    res: Res,
-    origin: Point,
-    target: Point,
-    start: Key,
-    end: Key,
+    view: &SensorView,
+    beam: PlacedBeam,
     window: &Window,
 ) -> Result<(), Memory>
-    requires start { key_at res origin ≡ Some start }
-    requires end { key_at res target ≡ Some end }
-    requires way { IsWay start end (met_by res origin target) }
+    requires placed { IsPlaced view.now.res beam }
+    requires way { IsWay view.now.start beam.voxel (met_by view.now.res view.now.origin beam.end) }
     requires bricks { All IsBrick bricks.old }
-    ensures { OnOk result (IsWayAdded (Some window.now) (morton_of end) (met_by res origin target)
-        bricks.old bricks.new) }
+    ensures { OnOk result (IsWayAdded (Some window.now) (morton_of beam.voxel)
+        (met_by view.now.res view.now.origin beam.end) bricks.old bricks.new) }
 {
-    if window.holds(start) && window.holds(end) {
-        push_way(
-            bricks,
-            Walk::between(res, origin, target, start, end),
-            morton(end),
-        )
-    } else if is_passed_by(window, start, end) {
+    if window.holds(view.start) && window.holds(beam.voxel) {
+        push_way(bricks, view.walk(beam), morton(beam.voxel))
+    } else if is_passed_by(window, view.start, beam.voxel) {
         Ok(())
     } else {
-        let walk = walk_to_box(res, origin, target, start, end, window);
-        push_inside(bricks, walk, end, window)
+        push_inside(bricks, walk_to_box(view, beam, window), beam.voxel, window)
     }
 }
 

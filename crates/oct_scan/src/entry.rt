@@ -1,12 +1,15 @@
 //! Where the walk along a beam comes to a box.
-ghost use Rattle.std.specs.Prelude.{◌≡◌, Some, IsTrue};
+ghost use Rattle.std.specs.Prelude.{◌≡◌, IsTrue};
 ghost use Rattle.oct_key.specs.Boxes.{IsInBox};
-ghost use Rattle.oct_key.specs.Voxel.{Voxel, key_at};
+ghost use Rattle.oct_key.specs.Voxel.{Voxel};
 ghost use Rattle.oct_ray.specs.Met.{met_by};
+ghost use Rattle.oct_scan.specs.Beam.{IsPlaced};
 ghost use Rattle.oct_scan.specs.Entry.{IsBefore, IsWay, IsWalkTo, part_on_axis};
 ghost use Rattle.oct_scan.specs.Gathered.{IsSpanned};
 
-use oct_key::{Key, Point, Res, Window, from_morton};
+use crate::beam::PlacedBeam;
+use crate::sensor_view::SensorView;
+use oct_key::{Key, Window, from_morton};
 use oct_ray::Walk;
 
 /// Whether two voxels lie beyond a box on one side of it, so that no voxel of the box that they
@@ -21,35 +24,22 @@ pub fn is_passed_by(window: &Window, a: Key, b: Key) -> bool
     below || above
 }
 
-/// The walk along a beam between two voxels, but for what comes before the box.
-pub fn walk_to_box(
-    res: Res,
-    origin: Point,
-    target: Point,
-    start: Key,
-    end: Key,
-    window: &Window,
-) -> Walk
-    requires start { key_at res origin ≡ Some start }
-    requires end { key_at res target ≡ Some end }
-    requires way { IsWay start end (met_by res origin target) }
-    ensures { IsWalkTo window.now start end (met_by res origin target) result }
+/// The walk along a beam, but for what comes before the box.
+pub fn walk_to_box(view: &SensorView, beam: PlacedBeam, window: &Window) -> Walk
+    requires placed { IsPlaced view.now.res beam }
+    requires way { IsWay view.now.start beam.voxel (met_by view.now.res view.now.origin beam.end) }
+    ensures { IsWalkTo window.now view.now.start beam.voxel
+        (met_by view.now.res view.now.origin beam.end) result }
 {
-    if window.holds(start) {
-        return Walk::between(res, origin, target, start, end);
+    if window.holds(view.start) {
+        return view.walk(beam);
     }
-    let rest = Walk::after(
-        res,
-        origin,
-        target,
-        start,
-        end,
-        part_before(window, start, end),
-    );
-    if is_before(window, start, &rest) {
+    let part = part_before(window, view.start, beam.voxel);
+    let rest = view.walk_after(beam, part);
+    if is_before(window, view.start, &rest) {
         rest
     } else {
-        Walk::between(res, origin, target, start, end)
+        view.walk(beam)
     }
 }
 

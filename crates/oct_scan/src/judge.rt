@@ -69,7 +69,7 @@ fn bound_met(beams: &[PlacedBeam], start: Key, most: u64) -> u64
 
 /// The most voxels that a segment meets whose ends lie in these two: the first one, and one for
 /// each face that it crosses.
-fn most_met(a: Key, b: Key) -> u64
+pub fn most_met(a: Key, b: Key) -> u64
     ensures exact { result ≡ 1 + abs_diff a.x b.x + abs_diff a.y b.y + abs_diff a.z b.z }
     ensures few { result ≤ 3 * 65535 + 1 }
 {

@@ -54,6 +54,7 @@ mod beam;
 mod bricks;
 mod cells;
 mod code_box;
+mod density;
 mod entry;
 mod fault;
 mod judge;
@@ -62,6 +63,7 @@ mod need;
 mod order;
 mod pile;
 mod scan;
+mod sensor_view;
 mod table;
 mod update;
 

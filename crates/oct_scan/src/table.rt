@@ -6,18 +6,17 @@ ghost use Rattle.oct_brick.specs.Bricks.{scanned_codes, hit_codes, IsBrick};
 ghost use Rattle.oct_scan.specs.Gathered.{IsCurrent, IsHeld};
 ghost use Rattle.oct_scan.specs.Piled.{AreFew, HoldSame, IsVoxelAdded, filled};
 
+use crate::beam::PlacedBeam;
+use crate::density::are_dense;
 use crate::pile::BrickPile;
 use oct_brick::Brick;
+use oct_key::Key;
 use oct_num::Memory;
 use std::alloc::Global;
 use std::marker::Model;
 
 /// How many places a table has: one for each brick of a block of 64 by 64 by 32 of them.
 const PLACES: usize = 1 << 17;
-
-/// How many beams a scan has at least that has a table. To make one and to go through it takes as
-/// long as a table spares some 16,384 beams of 20 voxels.
-const LEAST_TABLED: u64 = 1 << 15;
 
 /// The bricks of the beams so far. In a dense scan those that beams pass stand in a table, by the
 /// last bits of their codes, so that a voxel is set with no search. A brick goes to the pile where
@@ -44,7 +43,7 @@ impl Model for BrickTable {
 
 impl BrickTable {
     /// No bricks, and no table. They take no memory.
-    pub fn sparse(alloc: Global) -> BrickTable
+    fn sparse(alloc: Global) -> BrickTable
         ensures { result ≡ [] }
     {
         BrickTable {
@@ -53,14 +52,15 @@ impl BrickTable {
         }
     }
 
-    /// No bricks, with a table where so many beams are worth one.
-    pub fn for_beams(alloc: Global, count: u64) -> Result<BrickTable, Memory>
+    /// No bricks, with a table where these beams from a voxel are worth one.
+    pub fn for_beams(alloc: Global, start: Key, beams: &[PlacedBeam]) -> Result<BrickTable, Memory>
         ensures { IfOk result (λ table. table ≡ []) }
     {
-        if count < LEAST_TABLED {
-            return Ok(BrickTable::sparse(alloc));
+        if are_dense(start, beams) {
+            BrickTable::dense(alloc)
+        } else {
+            Ok(BrickTable::sparse(alloc))
         }
-        BrickTable::dense(alloc)
     }
 
     /// No bricks, with a table for a dense scan.

@@ -8,7 +8,7 @@ use Rattle.oct_scan.proofs.cells.add_by_keys.Given as goal
 
 abbrev pub invariant-loop-key : goal.invariant-loop-key
 invariant-loop-key l = record {
-  held : (d : PlacedBeam) → HoldAllGathered l.res l.window l.origin
+  held : (d : PlacedBeam) → HoldAllGathered l.view.res l.view.window l.view.origin
       (take l.key-index (bare (map (keyed_beam l.beams d) l.keys))) l.bricks;
   bricks : All IsBrick l.bricks;
 }

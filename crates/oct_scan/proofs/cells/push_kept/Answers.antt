@@ -8,25 +8,25 @@ use Rattle.oct_scan.proofs.cells.push_kept.Goals as goal
 
 pub push_way-requires-clause-ends : goal.push_way-requires-clause-ends
 push_way-requires-clause-ends c =
-    let on_map : IsInMap c.args.end = search rules in (
-      c.args.end,
+    let on_map : IsInMap c.args.beam.voxel = search rules in (
+      c.args.beam.voxel,
       on_map,
       sym c.morton.ensures.exact,
-      subst (λ (ks : List Voxel). EndsAt c.args.end ks) (sym c.between.ensures.computed)
+      subst (λ (ks : List Voxel). EndsAt c.args.beam.voxel ks) (sym c.walk.ensures)
           c.requires.way.ends,
     )
 
 pub returns-in-None : goal.returns-in-None
 returns-in-None c =
-    added_as c.push_way.result None c.args.window.now c.morton.result (morton_of c.args.end) _ _
+    added_as c.push_way.result None c.args.view.now.window c.morton.result (morton_of c.args.beam.voxel) _ _
     c.args.bricks.now c.push_way.new.bricks
-    (ap (λ w. kept w (met_by c.args.res c.args.origin c.args.target)) c.in-None.is
-    ∙ sym c.between.ensures.computed)
+    (ap (λ w. kept w (met_by c.args.view.now.res c.args.view.now.origin c.args.beam.end)) c.in-None.is
+    ∙ sym c.walk.ensures)
     c.morton.ensures.exact c.push_way.ensures
 
 pub returns-in-Some : goal.returns-in-Some
 returns-in-Some c =
-    added_as c.push_part.result (Some c.in-Some.window) c.args.window.now (morton_of c.args.end)
-    (morton_of c.args.end) _ _ c.args.bricks.now c.push_part.new.bricks
-    (ap (λ w. kept w (met_by c.args.res c.args.origin c.args.target)) c.in-Some.is) refl
+    added_as c.push_part.result (Some c.in-Some.window) c.args.view.now.window (morton_of c.args.beam.voxel)
+    (morton_of c.args.beam.voxel) _ _ c.args.bricks.now c.push_part.new.bricks
+    (ap (λ w. kept w (met_by c.args.view.now.res c.args.view.now.origin c.args.beam.end)) c.in-Some.is) refl
     c.push_part.ensures

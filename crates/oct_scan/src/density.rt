@@ -1,0 +1,43 @@
+//! Whether the beams of a scan pass the same bricks again and again.
+use crate::beam::PlacedBeam;
+use crate::judge::most_met;
+use oct_key::Key;
+
+/// How many voxels the beams of a dense scan meet at least, where a voxel counts once for each beam
+/// that meets it. To make a table of bricks and to go through it takes as long as it spares them.
+const LEAST_MET: u64 = 1 << 20;
+
+/// How many of them there are at least for each brick of the box that the beams span.
+const LEAST_PER_BRICK: u64 = 32;
+
+/// Whether the beams from a voxel meet many voxels, and pass the same bricks again and again.
+pub fn are_dense(start: Key, beams: &[PlacedBeam]) -> bool {
+    let mut met = 0_u64;
+    let (mut low, mut high) = (start, start);
+    for beam in beams {
+        let end = beam.voxel;
+        met = met.saturating_add(most_met(start, end));
+        low = Key {
+            x: low.x.min(end.x),
+            y: low.y.min(end.y),
+            z: low.z.min(end.z),
+        };
+        high = Key {
+            x: high.x.max(end.x),
+            y: high.y.max(end.y),
+            z: high.z.max(end.z),
+        };
+    }
+    LEAST_MET <= met && bricks_between(low, high) <= met / LEAST_PER_BRICK
+}
+
+/// How many bricks the box has that two voxels span.
+fn bricks_between(low: Key, high: Key) -> u64 {
+    let area = side(low.x, high.x).saturating_mul(side(low.y, high.y));
+    area.saturating_mul(side(low.z, high.z))
+}
+
+/// How many bricks the side of a box has that goes from one number to the other.
+fn side(low: u16, high: u16) -> u64 {
+    u64::from(high / 4).saturating_sub(u64::from(low / 4)) + 1
+}
