@@ -4,10 +4,11 @@ use crate::judge::most_met;
 use oct_key::Key;
 
 /// How many voxels the beams of a dense scan meet at least, where a voxel counts once for each beam
-/// that meets it. To make a table of bricks and to go through it takes as long as it spares them.
+/// that meets it: a table of bricks spares what it takes to make it and to go through it.
 const LEAST_MET: u64 = 1 << 20;
 
-/// How many of them there are at least for each brick of the box that the beams span.
+/// How many of them there are at least for each brick of the box that the beams span. Fewer of them
+/// seldom find a brick in the table.
 const LEAST_PER_BRICK: u64 = 32;
 
 /// Whether the beams from a voxel meet many voxels, and pass the same bricks again and again.
@@ -15,23 +16,32 @@ pub fn are_dense(start: Key, beams: &[PlacedBeam]) -> bool {
     let mut met = 0_u64;
     let (mut low, mut high) = (start, start);
     for beam in beams {
-        let end = beam.voxel;
-        met = met.saturating_add(most_met(start, end));
-        low = Key {
-            x: low.x.min(end.x),
-            y: low.y.min(end.y),
-            z: low.z.min(end.z),
-        };
-        high = Key {
-            x: high.x.max(end.x),
-            y: high.y.max(end.y),
-            z: high.z.max(end.z),
-        };
+        met = met.saturating_add(most_met(start, beam.voxel));
+        low = lower_corner(low, beam.voxel);
+        high = upper_corner(high, beam.voxel);
     }
     LEAST_MET <= met && bricks_between(low, high) <= met / LEAST_PER_BRICK
 }
 
-/// How many bricks the box has that two voxels span.
+/// The lower corner of the box that two voxels span.
+fn lower_corner(a: Key, b: Key) -> Key {
+    Key {
+        x: a.x.min(b.x),
+        y: a.y.min(b.y),
+        z: a.z.min(b.z),
+    }
+}
+
+/// The upper corner of the box that two voxels span.
+fn upper_corner(a: Key, b: Key) -> Key {
+    Key {
+        x: a.x.max(b.x),
+        y: a.y.max(b.y),
+        z: a.z.max(b.z),
+    }
+}
+
+/// How many bricks the box has that goes from one corner to the other.
 fn bricks_between(low: Key, high: Key) -> u64 {
     let area = side(low.x, high.x).saturating_mul(side(low.y, high.y));
     area.saturating_mul(side(low.z, high.z))

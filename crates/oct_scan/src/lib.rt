@@ -31,20 +31,20 @@
 //!   refusal looks at the box. Memory runs out only where some is taken: the scan isn't refused,
 //!   and has a point (`TakesMemory`).
 //!
-//! A scan is judged first, by a bound for each beam, and voxel by voxel only where the sum of these
-//! exceeds the limit. Then each beam is walked; from 4,096 to 2^19 beams go in the order of the
-//! bricks where they end, so that those that pass the same bricks mostly follow one another. One
-//! that doesn't lie in the box with both ends begins where it comes to the box, by a division for
-//! each axis, and is walked up to its end from its first voxel there, or up to where it leaves it.
-//! In a scan of 2^15 to 2^19 beams each voxel is set in a table of 2^17 bricks, where a brick
-//! stands by the last bits of its code; it goes to the pile where another one takes its place. In
-//! any other scan, and in a box that a beam comes to or leaves, a beam's voxels go into the brick
-//! where it is, which is added to the pile when the beam leaves it. The pile remembers in a table
-//! of its own where bricks stand. It merges them where those that the table
-//! forgot become many, so that there are never more than twice as many as codes, and 2^18
-//! (`AreFew`): memory follows the bricks that the beams touch, however often they do. The bricks
-//! are sorted by their codes, and those of one code joined; each adds to the need the blocks that
-//! don't hold the one before it, and its own octets.
+//! The beams are made first, and the scan is judged by a bound for each; voxel by voxel only where
+//! the sum of these exceeds the limit, or where there is no memory for the beams. Then each beam is
+//! walked; from 4,096 to 2^19 beams go in the order of the bricks where they end, so that those
+//! that pass the same bricks mostly follow one another. One that doesn't lie in the box with both
+//! ends begins where it comes to the box, by a division for each axis, and is walked up to its end
+//! from its first voxel there, or up to where it leaves it. In a dense scan (`are_dense`) each
+//! voxel is set in a table of 2^17 bricks, where a brick stands by the last bits of its code; it
+//! goes to the pile where another one takes its place. In any other scan, and in a box that a beam
+//! comes to or leaves, a beam's voxels go into the brick where it is, which is added to the pile
+//! when the beam leaves it. The pile remembers in a table of its own where bricks stand, and merges
+//! them where those that it forgot become many, so that there are never more than twice as many as
+//! codes, and 2^18 (`AreFew`): memory follows the bricks that the beams touch, however often they
+//! do. The bricks are sorted by their codes, and those of one code joined; each adds to the need
+//! the blocks that don't hold the one before it, and its own octets.
 //!
 //! Both calls allocate, and touch nothing but their arguments.
 
