@@ -34,10 +34,16 @@ class Flat(InFolder):
         self.assertEqual(os.listdir(), ["poses.txt"])
 
     def test_without_room(self):
-        """A fault names the file, leaves none, and the same words may be tried again."""
+        """A fault names the file, and leaves only the folders that were there; the same words may
+        be tried again."""
+        os.mkdir("maps")
+        with files_of_at_most(100_000):
+            self.refused("maps/a/flat/clouds/0.npy: File too large", "example", "maps/a/flat")
+        self.assertEqual(os.listdir("maps"), [])
+        os.makedirs("flat/clouds")
         with files_of_at_most(100_000):
             self.refused("flat/clouds/0.npy: File too large", "example", "flat")
-        self.assertEqual([it for *_, files in os.walk("flat") for it in files], [])
+        self.assertEqual(os.listdir("flat/clouds"), [])
         self.done("example", "flat")
         self.assertEqual(len(os.listdir("flat/clouds")), 7)
 

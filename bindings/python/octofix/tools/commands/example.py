@@ -9,6 +9,7 @@ frame, and FOLDER/poses.txt has its poses in the form of the TUM benchmarks. Wal
 what stands on the floor 1 m, tables 0.75 m.
 """
 
+import contextlib
 import io
 from math import pi
 from pathlib import Path
@@ -65,11 +66,32 @@ def run(options):
         raise Unusable("the name of the folder is empty (is a variable of the shell unset?)")
     folder = Path(options.folder)
     clouds = folder / "clouds"
-    # (a run that had no room for the files leaves the folders)
+    # (a run that was killed may have left the folders)
     for it in filter(Path.is_dir, (folder, clouds)):
         if any(inside != clouds for inside in it.iterdir()):
             raise Unusable("something is in that folder", str(folder))
-    clouds.mkdir(parents=True, exist_ok=True)
+    with _made(clouds):
+        _write_flat(folder, clouds)
+    return DONE
+
+
+@contextlib.contextmanager
+def _made(folder):
+    """Makes the folder, with those that it lies in; where what follows fails, those that it has
+    made go again."""
+    lacking = [it for it in (folder, *folder.parents) if not it.exists()]
+    try:
+        folder.mkdir(parents=True, exist_ok=True)
+        yield
+    except BaseException:
+        for it in lacking:
+            # (what somebody else has put there stays)
+            with contextlib.suppress(OSError):
+                it.rmdir()
+        raise
+
+
+def _write_flat(folder, clouds):
     names = [clouds / f"{number}.npy" for number in range(len(PLACES))]
     with written(*map(str, [folder / "poses.txt", *names])) as (poses, *files):
         poses.write(b"# time x y z qx qy qz qw\n")
@@ -78,7 +100,6 @@ def run(options):
             file.write(_npy(seen_from(place, turned)))
             turn = f"0 0 {np.sin(turned / 2):.9f} {np.cos(turned / 2):.9f}"
             poses.write(f"{number} {place[0]} {place[1]} {SENSOR} {turn}\n".encode())
-    return DONE
 
 
 def _npy(points):
