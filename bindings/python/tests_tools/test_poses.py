@@ -37,6 +37,31 @@ class InTurn(InFolder):
         wanted = "scan 1 2 3 1 0 0 0 all\np 0 2 0.5\nend\nscan 0 0 4 1 0 0 0 all\np 2 0 0.5\nend\n"
         self.assertEqual(self.script("--poses", "poses.txt", "a.xyz", "b.xyz"), wanted)
 
+    def test_a_file_that_was_cut(self):
+        """Within a number, which is said; the pose is that number's, since the end of a line may be
+        forgotten, too. Within a line it is refused."""
+        rows = "0 1 2 3 0 0 0 1\n1 1 2 4.5 0 0 0 1.0"
+        said = "octofix: poses:2: the last line has no end (LF), so the file may have been cut\n"
+        clouds = [DATA / "corner.xyz"] * 2
+        for cut, wanted in ((rows, said), (rows[:-2], said), (rows + "\n", ""), (rows + "\n# 2", "")):
+            with open("poses", "w") as file:
+                file.write(cut)
+            words = "map", "--res", "0.1", "--quiet", "--poses", "poses", *clouds, "-o", "a.bt"
+            self.assertEqual(self.done(*words).said, wanted)
+        with open("poses", "w") as file:
+            file.write(rows[:-4])
+        said = "octofix: poses:2: a pose has 8 numbers here (tum), and not 7\n"
+        self.assertEqual(self.done(*words, status=1).said, said)
+
+    def test_a_file_of_times_that_was_cut(self):
+        for name, rows in (("times", "1\n2"), ("poses", "1 0 0 0 0 0 0 1\n2 0 0 0 0 0 0 1\n")):
+            with open(name, "w") as file:
+                file.write(rows)
+        said = "octofix: times:2: the last line has no end (LF), so the file may have been cut\n"
+        clouds = [DATA / "corner.xyz"] * 2
+        words = "map", "--res", "0.1", "--quiet", "--poses", "poses", "--times", "times"
+        self.assertEqual(self.done(*words, *clouds, "-o", "a.bt").said, said)
+
     def test_sensor(self):
         """A sensor that looks to the left, half a metre before the middle of a robot that is turned
         to the left itself."""

@@ -4,6 +4,7 @@ import re
 
 from .errors import Unusable
 from .files import read_bytes
+from .progress import say
 
 ROS_BAG = b"#ROSBAG V"
 LAS = b"LASF"
@@ -53,3 +54,11 @@ def text_of(name):
     except Unusable as why:
         raise why.named(name)
     return content.decode("utf-8-sig", "replace")
+
+
+def tell_cut(name, text):
+    """Says so where the last line has no end, since its last number may have lost digits."""
+    last = text.rpartition("\n")[2]
+    if last.strip() and not last.lstrip().startswith("#"):
+        line = text.count("\n") + 1
+        say(f"{name}:{line}: the last line has no end (LF), so the file may have been cut")

@@ -7,7 +7,7 @@ from dataclasses import dataclass
 import numpy as np
 
 from .errors import Unusable
-from .kinds import text_of
+from .kinds import tell_cut, text_of
 
 # Forms of poses: 'time x y z qx qy qz qw' of the TUM benchmarks, the 12 numbers of a 3 x 4 matrix
 # of KITTI, and 'time x y z qw qx qy qz ..' of EuRoC, whose ground truth has 17 columns.
@@ -128,8 +128,8 @@ def read_poses(name, skips, form=None):
     """The list of (time or None, pose or None) of a file, a line each, in a form of FORMS, or in
     the one that its first pose shows. A pose that can't be used is None where `skips` lets it
     pass."""
-    found, headings = [], []
-    for line, row in enumerate(text_of(name).split("\n"), 1):
+    found, headings, text = [], [], text_of(name)
+    for line, row in enumerate(text.split("\n"), 1):
         words = row.replace(",", " ").split()
         if not words or words[0].startswith("#") or not (found or any(map(is_number, words))):
             headings.append(row)
@@ -143,6 +143,7 @@ def read_poses(name, skips, form=None):
             found.append((None, None))
     if not found:
         raise Unusable("it has no pose", name)
+    tell_cut(name, text)
     return found
 
 

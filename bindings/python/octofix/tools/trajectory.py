@@ -8,7 +8,7 @@ from dataclasses import dataclass
 import numpy as np
 
 from .errors import Unusable
-from .kinds import text_of
+from .kinds import tell_cut, text_of
 from .poses import Pose, numbers_of, read_poses, seconds
 
 
@@ -165,8 +165,8 @@ def time_of_name(name):
 
 def read_times(name):
     """The first number of each line that isn't a comment, in seconds."""
-    found = []
-    for line, row in enumerate(text_of(name).split("\n"), 1):
+    found, text = [], text_of(name)
+    for line, row in enumerate(text.split("\n"), 1):
         words = row.split()[:1]
         if words and not words[0].startswith("#"):
             try:
@@ -177,4 +177,5 @@ def read_times(name):
                 why.name, why.line = name, line
                 raise
             found.append(seconds(time))
+    tell_cut(name, text)
     return found
