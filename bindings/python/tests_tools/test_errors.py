@@ -11,6 +11,8 @@ from unittest import mock
 import numpy as np
 from running import DATA, InFolder, save_map
 
+from octofix import clouds
+from octofix.tools import memory
 from octofix.tools.command import NO_THREAD
 
 PCD = (DATA / "corner.pcd").read_text()
@@ -402,7 +404,7 @@ class Words(InFolder):
         """Numpy's words of an array's type may be long."""
         said = "Unable to allocate 21.3 MiB"
         fault = MemoryError(f"{said} for an array with shape (698027,) and data type int64")
-        with mock.patch("octofix.tools.files._files.read", side_effect=fault):
+        with mock.patch("octofix.tools.files._content_of", side_effect=fault):
             self.refused(f"memory ran out: {said}", "info", "a.bt")
 
     def test_missing_libraries(self):
@@ -436,3 +438,75 @@ class Words(InFolder):
                 said = f"a PNG needs the Python library PIL, which can't be loaded: {said}"
                 self.refused(said, "view", "a.bt", "-o", "c.png", status=4)
         self.assertFalse(os.path.exists("c.png"))
+
+
+class Endless(InFolder):
+    """What may have no end is read until memory has no more room, and a map up to 2^30 bytes."""
+
+    def test_clouds_and_poses(self):
+        """Half of the memory that is free, and all of it for a file, whose size is known."""
+        said = "it is too large, or has no end: memory has room for"
+        with open("packed.pcd", "wb") as file:
+            file.write(gzip.compress(bytes(2_000_001)))
+        with open("large.ply", "wb") as file:
+            file.truncate(4_000_001)
+        with open("fitting.npy", "wb") as file:
+            file.write(npy(np.ones((300_000, 3), np.float32)))
+        words = ["map", "--res", 1, "-o", "a.bt"]
+        with mock.patch("octofix.tools.files.free_memory", lambda: 4_000_000):
+            for name in ("/dev/zero", "packed.pcd"):
+                self.refused(f"{name}: {said} 2,000,000 bytes", *words, name)
+            self.refused(f"large.ply: {said} 4,000,000 bytes", *words, "large.ply")
+            self.refused(f"-: {said} 2,000,000 bytes", *words, "-", given=bytes(2_000_001))
+            pair = ["--poses", "/dev/zero", "fitting.npy"]
+            self.refused(f"/dev/zero: {said} 2,000,000 bytes", *words, *pair)
+            with self.assertRaisesRegex(clouds.BadCloud, f"^/dev/zero: {said} 2,000,000 bytes$"):
+                next(clouds.read("/dev/zero"))
+            self.done(*words, "fitting.npy")
+
+    def test_maps(self):
+        said = "it is too large, or has no end: such a file has at most 1,073,741,824 bytes"
+        with open("large.bt", "wb") as file:
+            file.truncate(2**30 + 1)
+        self.refused(f"large.bt: {said}", "info", "large.bt")
+        said = said.replace("1,073,741,824", "3,000,000")
+        with open("packed.bt", "wb") as file:
+            file.write(gzip.compress(bytes(3_000_001)))
+        with mock.patch("octofix.tools.maps.MOST_BYTES", 3_000_000):
+            for name in ("/dev/zero", "packed.bt"):
+                self.refused(f"{name}: {said}", "view", name, "-o", "a.html")
+
+    def test_pieces(self):
+        """What comes in many is whole, of gzip's too."""
+        rows = b"".join(b"%d 0 0\n" % it for it in range(400))
+        save_map("wanted.bt", 1, {(it, 0, 0): 9 for it in range(400)})
+        wanted = self.done("points", "wanted.bt", "--format", "xyz", "-o", "-").output
+        with mock.patch("octofix.tools.files.PIECE", 1000):
+            for given in (rows, gzip.compress(rows[:1500]) + gzip.compress(rows[1500:])):
+                self.done("map", "--res", 1, "--world", "--pose", 0, 0, 0, 1, 0, 0, 0, "-", "-o",
+                          "a.bt", given=given)  # fmt: skip
+                came = self.done("points", "a.bt", "--format", "xyz", "-o", "-").output
+                self.assertEqual(came, wanted)
+
+    def test_an_input_that_does_not_wait(self):
+        """It isn't taken for whole where there is nothing yet."""
+        class Waiting(io.BytesIO):
+            def read(self, size=-1):
+                return super().read(size) or None
+
+        with mock.patch("octofix.tools.files._input", lambda _: Waiting(b"1 2 3\n")):
+            said = "-: Resource temporarily unavailable"
+            self.refused(said, "map", "--res", 1, "-", "-o", "a.bt")
+
+    def test_free_memory(self):
+        """Of the machine, and of a container that has less."""
+        with open("machine", "w") as file:
+            file.write("MemTotal:          9 kB\nMemAvailable:      5 kB\n")
+        places = mock.patch.multiple(memory, MACHINE="machine", CONTAINER="container")
+        for bound, wanted in (("max\n", 5120), ("4096\n", 4096), ("6000\n", 5120)):
+            with open("container", "w") as file:
+                file.write(bound)
+            with places:
+                self.assertEqual(memory.free_memory(), wanted)
+        with mock.patch.multiple(memory, MACHINE="none", CONTAINER="none"):
+            self.assertEqual(memory.free_memory(), sys.maxsize)

@@ -3,7 +3,9 @@
 import contextlib
 import errno
 import gzip
+import io
 import os
+import stat
 import sys
 import zlib
 
@@ -11,21 +13,69 @@ from octofix import _files
 
 from .errors import Unusable
 from .interrupts import INTERRUPTS
+from .memory import free_memory
 
 GZIP = b"\x1f\x8b"
+PIECE = 1 << 16
+# What a file of a map, or of poses, may have.
+MOST_BYTES = 1 << 30
 # What an interrupt waits for.
 WRITING = "the files to be written"
 
 
-def read_bytes(name):
-    """The content of a file, unpacked where it is gzip's."""
+def read_bytes(name, most=sys.maxsize):
+    """The content of a file, unpacked where it is gzip's; Unusable where it has more bytes than
+    `most`, or than memory has room for: a device, a pipe and what is packed may have no end."""
     try:
-        content = _standard_input() if name == "-" else _files.read(name)
-        return gzip.decompress(content) if content.startswith(GZIP) else content
+        # (before: Python doesn't hear a signal that comes right before it waits for a pipe, so that
+        # little is to be done from when it is opened)
+        free = free_memory()
+        with _input(name) as file:
+            content = _content_of(file, most, free)
+        if content.startswith(GZIP):
+            packed = gzip.GzipFile(fileobj=io.BytesIO(content))
+            content = _in_pieces(packed, most, free_memory())
+        return content
+    except Unusable as why:
+        raise why.named(name)
     except (EOFError, zlib.error, gzip.BadGzipFile) as error:
         raise Unusable(f"it isn't whole gzip data: {error}", name) from None
     except OSError as error:
         raise Unusable(error.strerror or str(error), name) from None
+
+
+def _input(name):
+    if name != "-":
+        return open(name, "rb")
+    if sys.stdin is None:
+        raise OSError(errno.EBADF, os.strerror(errno.EBADF))
+    return contextlib.nullcontext(sys.stdin.buffer)
+
+
+def _content_of(file, most, free):
+    with contextlib.suppress(io.UnsupportedOperation):
+        status = os.fstat(file.fileno())
+        if stat.S_ISREG(status.st_mode):
+            _expect_room(status.st_size, most, free)
+            return file.read()
+    return _in_pieces(file, most, free)
+
+
+def _in_pieces(file, most, free):
+    """What a file has that may have no end; it may take half of the memory that is free."""
+    found = io.BytesIO()
+    while piece := file.read(PIECE):
+        _expect_room(found.tell() + len(piece), most, free // 2)
+        found.write(piece)
+    if piece is None:  # (there is more to come, and it isn't waited for)
+        raise BlockingIOError(errno.EAGAIN, os.strerror(errno.EAGAIN))
+    return found.getvalue()
+
+
+def _expect_room(size, most, room):
+    if size > min(most, room):
+        said = "such a file has at most" if most < room else "memory has room for"
+        raise Unusable(f"it is too large, or has no end: {said} {min(most, room):,} bytes")
 
 
 @contextlib.contextmanager
@@ -63,9 +113,3 @@ class StandardOutput(_files.Output):
 
     def finish(self):
         self.stream.flush()
-
-
-def _standard_input():
-    if sys.stdin is None:
-        raise OSError(errno.EBADF, os.strerror(errno.EBADF))
-    return sys.stdin.buffer.read()

@@ -3,7 +3,7 @@
 import re
 
 from .errors import Unusable
-from .files import read_bytes
+from .files import MOST_BYTES, read_bytes
 from .progress import say
 
 ROS_BAG = b"#ROSBAG V"
@@ -47,7 +47,7 @@ def refuse_empty(content):
 
 def text_of(name):
     """The content of a text file in UTF-8; a byte that isn't is replaced."""
-    content = read_bytes(name)
+    content = read_bytes(name, MOST_BYTES)
     try:
         refuse_empty(content)
         refuse_unread(content)

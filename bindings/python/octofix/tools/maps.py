@@ -6,7 +6,7 @@ import subprocess
 from octofix import Map, Refused
 
 from .errors import Unusable
-from .files import read_bytes
+from .files import MOST_BYTES, read_bytes
 from .leaves import Leaves
 
 SNAPSHOTS = (b"OCTSNAP1", b"OCTSNAP2")
@@ -22,7 +22,7 @@ def read_map(name):
 
 def _read(name):
     """The map of a file, and whether it has values, as a snapshot."""
-    content = read_bytes(name)
+    content = read_bytes(name, MOST_BYTES)
     if not content:
         raise Unusable("it is empty", name)
     if content.startswith(FLOAT_TREE):
