@@ -24,6 +24,7 @@ except ImportError:
 
 HERE = Path(__file__).resolve().parent
 LIBRARY = "liboctofix.so.1"
+COMMAND = "octofix.sh"
 PURE, BOUND = "py3-none-any", "py3-none-linux_x86_64"
 # The time of a file where nothing says one: the first that a zip archive can have.
 EARLIEST = 315532800
@@ -128,6 +129,8 @@ def write_wheel(folder, files, tags, version=None, more=(), seconds=EARLIEST):
         **licenses(),
         **dict(more),
     }
+    command = f"octofix-{version}.data/scripts/octofix"
+    files = {**files, command: (0o755, (HERE / COMMAND).read_bytes())}
     files = {**files, **{f"{info}/{it}": (0o644, text.encode()) for it, text in texts.items()}}
     files[f"{info}/RECORD"] = 0o644, record(files, f"{info}/RECORD").encode()
     last = ".".join(it.rpartition("-")[2] for it in tags)
@@ -155,7 +158,7 @@ def build_sdist(sdist_directory, config_settings=None):
     """The sources of the package, of which pip builds a wheel where there is a library."""
     top = f"octofix-{project()['version']}"
     files = package_files()
-    for it in ("pyproject.toml", "README.md", "octofix_build.py"):
+    for it in ("pyproject.toml", "README.md", "octofix_build.py", COMMAND):
         files[it] = 0o644, (HERE / it).read_bytes()
     for it, text in {"PKG-INFO": metadata(), **licenses()}.items():
         files[it] = 0o644, text.encode()

@@ -11,7 +11,6 @@ exec env $block @PYTHON@ "$0" "$@"
 
 import importlib.util
 import os
-import signal
 import sys
 
 SYSTEM = "/usr/bin/python3"
@@ -37,5 +36,4 @@ if importlib.util.find_spec("numpy") is None:
 
 from octofix.__main__ import run  # noqa: E402
 
-signal.pthread_sigmask(signal.SIG_UNBLOCK, {signal.SIGINT})
 run()

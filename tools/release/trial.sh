@@ -62,6 +62,15 @@ try_commands() {
     expect 'octomap --version' "octomap $number" "$(octomap --version | sed -n '1s/ (.*//p')"
 }
 
+# A Ctrl-C that comes while Python starts ends the command without a word.
+try_ctrl_c() {
+    mkdir "$room/site"
+    printf 'import os, signal\nos.kill(os.getpid(), signal.SIGINT)\n' >"$room/site/sitecustomize.py"
+    PYTHONPATH=$room/site env --default-signal=INT octofix --version >"$room/said" 2>&1
+    expect 'the status of octofix that Ctrl-C ends' 130 $?
+    expect 'what it says' '' "$(<"$room/said")"
+}
+
 # readme_block LANGUAGE: what README.md has between ```LANGUAGE and ```.
 readme_block() {
     sed -n "/^\`\`\`$1\$/,/^\`\`\`\$/p" "$given/README.md" | sed '1d; $d'
@@ -127,6 +136,9 @@ try_wheel() {
     try_readme pip
     unset -f python3
     try_commands
+    try_ctrl_c
+    ln -s "$room/home/octofix/bin/octofix" "$room/linked"
+    expect 'octofix through a link' "octofix $number" "$("$room/linked" --version 2>&1)"
     try_python "$python"
     expect 'python -m octofix' "octofix $number" "$("$python" -m octofix --version 2>&1)"
     expect 'pip knows the version' "$version" \
