@@ -6,11 +6,10 @@ import importlib
 import io
 import os
 import re
-import signal
 import sys
 
 from .errors import CLOSED_PIPE, INTERRUPTED, MISSING_LIBRARY, UNUSABLE, Unusable
-from .interrupts import INTERRUPTS, Abandoned
+from .interrupts import INTERRUPTS, START, Abandoned
 from .progress import say
 
 COMMANDS = (
@@ -65,17 +64,8 @@ def run():
     by this alone a shell sees that its loop is to end, too."""
     status = main()
     if status == INTERRUPTED:
-        _end_by_ctrl_c()
+        INTERRUPTS.end_by_ctrl_c()
     sys.exit(status)
-
-
-def _end_by_ctrl_c():
-    """Ends the process as Ctrl-C does, where it came first."""
-    if INTERRUPTS.first == signal.SIGINT:
-        with contextlib.suppress(OSError):
-            sys.stdout.flush()
-        signal.signal(signal.SIGINT, signal.SIG_DFL)
-        os.kill(os.getpid(), signal.SIGINT)
 
 
 def main(words=None):
@@ -86,7 +76,7 @@ def main(words=None):
         except Abandoned:
             say("ended at once: nothing is written")
             # (what is abandoned still runs in its thread)
-            _end_by_ctrl_c()
+            INTERRUPTS.end_by_ctrl_c()
             os._exit(INTERRUPTED)
         except KeyboardInterrupt as why:
             say(f"stopped by {INTERRUPTS.name()}{why}")
@@ -101,7 +91,7 @@ def main(words=None):
 def _run(words):
     # (where it is closed, what is written to this is a fault)
     sys.stdout = open(os.devnull) if sys.stdout is None else _buffered(sys.stdout)
-    with INTERRUPTS.held("the start"):
+    with INTERRUPTS.held(START):
         # (this imports numpy and loads the library)
         from octofix import Refused
 

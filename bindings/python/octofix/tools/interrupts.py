@@ -1,14 +1,19 @@
 """Ctrl-C, SIGTERM and SIGHUP at a good moment."""
 
 import contextlib
+import os
 import signal
+import sys
 import threading
 
+from .errors import INTERRUPTED
 from .progress import say
 
 NAMES = {signal.SIGINT: "Ctrl-C", signal.SIGTERM: "SIGTERM", signal.SIGHUP: "SIGHUP"}
 # How often it is looked whether an interrupt waits, in seconds.
 LOOK = 0.1
+# What an interrupt waits for while the tools are imported.
+START = "the start"
 
 
 class Abandoned(KeyboardInterrupt):
@@ -17,7 +22,9 @@ class Abandoned(KeyboardInterrupt):
 
 class Interrupts:
     """What is done where one of the signals comes: a KeyboardInterrupt, or within `held` nothing
-    before the caller asks by `take`; there a second one is Abandoned."""
+    before the caller asks by `take`; there a second one is Abandoned. While the tools are imported
+    it ends the process by itself, since numpy, as it is imported, turns what is raised into faults
+    of its own."""
 
     def __init__(self):
         self._forget()
@@ -46,6 +53,9 @@ class Interrupts:
         self.first = self.first or number
         if self.waits_for is None:
             raise KeyboardInterrupt
+        if is_second and self.waits_for == START:
+            self.end_by_ctrl_c()
+            os._exit(INTERRUPTED)
         if is_second:
             raise Abandoned
         self.is_waiting = True
@@ -53,6 +63,14 @@ class Interrupts:
     def name(self):
         """What came first."""
         return NAMES.get(self.first, "Ctrl-C")
+
+    def end_by_ctrl_c(self):
+        """Ends the process as Ctrl-C does, where it came first."""
+        if self.first == signal.SIGINT:
+            with contextlib.suppress(OSError):
+                sys.stdout.flush()
+            signal.signal(signal.SIGINT, signal.SIG_DFL)
+            os.kill(os.getpid(), signal.SIGINT)
 
     @contextlib.contextmanager
     def held(self, what):
