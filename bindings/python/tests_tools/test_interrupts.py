@@ -27,6 +27,15 @@ def slow(*words):
 mapping.do_scan = slow
 run()
 """
+# A second signal, which comes while it is told that the first one came.
+TWICE = """
+import os, signal
+from octofix.tools import command
+def say(text):
+    os.kill(os.getpid(), signal.%s)
+command.say = say
+command.run()
+"""
 # A numpy during whose import signals come, and what they raise is lost.
 INTERRUPTING = """
 import os, signal, sys
@@ -149,6 +158,18 @@ class Reading(Processes):
                 file.write(INTERRUPTING % list(map(int, signals)))
             self.ends(self.map("a.xyz"), said, status)
             self.assertEqual(content_of("a.bt"), b"2 0 0\n")
+
+
+    def test_twice_at_the_end(self):
+        """The second one ends it, without a word."""
+        self.pipe()
+        for it, status in ((signal.SIGINT, BY_CTRL_C), (signal.SIGTERM, 130)):
+            words = "map", "--res", "0.1", "wait.xyz", "-o", "a.bt"
+            run = self.start("-c", TWICE % it.name, *words)
+            held = self.opened()
+            run.send_signal(it)
+            self.ends(run, "", status)
+            os.close(held)
 
 
 class Start(Processes):

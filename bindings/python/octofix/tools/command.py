@@ -9,7 +9,7 @@ import re
 import sys
 
 from .errors import CLOSED_PIPE, INTERRUPTED, MISSING_LIBRARY, UNUSABLE, Unusable
-from .interrupts import INTERRUPTS, START, Abandoned
+from .interrupts import END, INTERRUPTS, START, Abandoned
 from .progress import say
 
 COMMANDS = (
@@ -79,7 +79,8 @@ def main(words=None):
             INTERRUPTS.end_by_ctrl_c()
             os._exit(INTERRUPTED)
         except KeyboardInterrupt as why:
-            say(f"stopped by {INTERRUPTS.name()}{why}")
+            with INTERRUPTS.held(END):
+                say(f"stopped by {INTERRUPTS.name()}{why}")
             return INTERRUPTED
         except ImportError as why:
             is_numpy = why.name == "numpy"

@@ -12,8 +12,8 @@ from .progress import say
 NAMES = {signal.SIGINT: "Ctrl-C", signal.SIGTERM: "SIGTERM", signal.SIGHUP: "SIGHUP"}
 # How often it is looked whether an interrupt waits, in seconds.
 LOOK = 0.1
-# What an interrupt waits for while the tools are imported.
-START = "the start"
+# What an interrupt waits for while the tools are imported, and when they are done.
+START, END = "the start", "the end"
 
 
 class Abandoned(KeyboardInterrupt):
@@ -22,9 +22,9 @@ class Abandoned(KeyboardInterrupt):
 
 class Interrupts:
     """What is done where one of the signals comes: a KeyboardInterrupt, or within `held` nothing
-    before the caller asks by `take`; there a second one is Abandoned. While the tools are imported
-    it ends the process by itself, since numpy, as it is imported, turns what is raised into faults
-    of its own."""
+    before the caller asks by `take`; there a second one is Abandoned. At START and END it ends the
+    process by itself: numpy, as it is imported, turns what is raised into faults of its own, and in
+    the end nobody is there for it."""
 
     def __init__(self):
         self._forget()
@@ -44,6 +44,7 @@ class Interrupts:
                     before[it] = signal.signal(it, self._come)
             yield
         finally:
+            self.waits_for = END
             for it, handler in before.items():
                 signal.signal(it, handler)
 
@@ -53,7 +54,7 @@ class Interrupts:
         self.first = self.first or number
         if self.waits_for is None:
             raise KeyboardInterrupt
-        if is_second and self.waits_for == START:
+        if is_second and self.waits_for in (START, END):
             self.end_by_ctrl_c()
             os._exit(INTERRUPTED)
         if is_second:
