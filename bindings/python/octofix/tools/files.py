@@ -38,6 +38,8 @@ def read_bytes(name, most=sys.maxsize):
         return content
     except Unusable as why:
         raise why.named(name)
+    except MemoryError:
+        raise Unusable("memory ran out as it was read", name) from None
     except (EOFError, zlib.error, gzip.BadGzipFile) as error:
         raise Unusable(f"it isn't whole gzip data: {error}", name) from None
     except OSError as error:
