@@ -466,6 +466,21 @@ class Endless(InFolder):
                 next(clouds.read("/dev/zero"))
             self.done(*words, "fitting.npy")
 
+    def test_what_is_packed_in_a_pcd(self):
+        """2,400,000 zeros: one, and then 9,091 times as many as a repetition may have, or fewer."""
+        packed = b"\0\0" + b"\xe0\xff\0" * 9090 + b"\xe0\xe6\0"
+        head = PCD.replace(" 8", " 200000").replace("DATA ascii", "DATA binary_compressed")
+        head = head[: head.index("compressed\n") + 11].encode()
+        sizes = np.array([len(packed), 2_400_000], "<u4").tobytes()
+        with open("a.pcd", "wb") as file:
+            file.write(head + sizes + packed)
+        words = "map", "--res", 1, "a.pcd", "-o", "a.bt"
+        with mock.patch("octofix.tools.clouds.pcd.free_memory", lambda: 4_000_000):
+            said = "a.pcd: it is too large, or has no end: memory has room for 2,000,000 bytes"
+            self.refused(said, *words)
+        with mock.patch("octofix.tools.clouds.pcd.free_memory", lambda: 4_800_000):
+            self.assertIn(" 1 scans of 200000 points", self.done(*words).said)
+
     def test_maps(self):
         said = "it is too large, or has no end: such a file has at most 1,073,741,824 bytes"
         with open("large.bt", "wb") as file:

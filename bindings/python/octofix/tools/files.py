@@ -58,7 +58,7 @@ def _content_of(file, most, free):
     with contextlib.suppress(io.UnsupportedOperation):
         status = os.fstat(file.fileno())
         if stat.S_ISREG(status.st_mode):
-            _expect_room(status.st_size, most, free)
+            expect_room(status.st_size, free, most)
             return file.read()
     return _in_pieces(file, most, free)
 
@@ -67,14 +67,15 @@ def _in_pieces(file, most, free):
     """What a file has that may have no end; it may take half of the memory that is free."""
     found = io.BytesIO()
     while piece := file.read(PIECE):
-        _expect_room(found.tell() + len(piece), most, free // 2)
+        expect_room(found.tell() + len(piece), free // 2, most)
         found.write(piece)
     if piece is None:  # (there is more to come, and it isn't waited for)
         raise BlockingIOError(errno.EAGAIN, os.strerror(errno.EAGAIN))
     return found.getvalue()
 
 
-def _expect_room(size, most, room):
+def expect_room(size, room, most=sys.maxsize):
+    """Unusable where so many bytes are more than memory has room for, or than `most`."""
     if size > min(most, room):
         said = "such a file has at most" if most < room else "memory has room for"
         raise Unusable(f"it is too large, or has no end: {said} {min(most, room):,} bytes")

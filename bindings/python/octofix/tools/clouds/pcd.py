@@ -5,6 +5,8 @@ from dataclasses import dataclass
 import numpy as np
 
 from ..errors import Unusable, on_line
+from ..files import expect_room
+from ..memory import free_memory
 from ..poses import Pose, numbers_of
 from .cloud import Cloud, only, stacked, xyz_of
 from .columns import AXES, places_of
@@ -144,6 +146,7 @@ def _of_compressed(body, header):
     is_whole = len(body) >= 8 + packed and _is_padding(body[8 + packed :])
     if plain != header.points * layout.itemsize or not is_whole:
         raise Unusable(f"its data has {len(body)} bytes, which don't fit the sizes in it")
+    expect_room(plain, free_memory() // 2)
     data = unpacked(body[8 : 8 + packed], plain)
     fields = ((layout.fields[it][0], layout.fields[it][1] * header.points) for it in AXES)
     return stacked([np.frombuffer(data, kind, header.points, start) for kind, start in fields])
