@@ -22,6 +22,8 @@ program=$(realpath -- "$found") || exit 1
 script=$(realpath -- "$5") || exit 1
 room=$(mktemp -d) || exit 1
 trap 'rm -rf -- "$room"' EXIT
+# (a shell that a signal ends may leave that out)
+trap 'exit 130' HUP INT TERM
 export OCTOMAP="$program"
 
 # One region, for its number and words of this script.

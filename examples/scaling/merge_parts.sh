@@ -19,6 +19,8 @@ found=$(command -v -- "${OCTOMAP:-$here/../../octomap}") && OCTOMAP=$(realpath -
 export OCTOMAP
 room=$(mktemp -d ./merging.XXXXXX) || exit 1
 trap 'rm -rf -- "$room"' EXIT
+# (a shell that a signal ends may leave that out)
+trap 'exit 130' HUP INT TERM
 
 count=$1 round=0
 for number in $(seq "$count"); do

@@ -14,6 +14,8 @@ suffix=
 [ "$how" = proved ] || suffix=-unproved
 number=$(printf '%s\n' "$version" | sed -n '1s/^octomap \([^ ]*\).*/\1/p')
 room=$(mktemp -d) && trap 'rm -rf -- "$room"' EXIT || exit 1
+# (a shell that a signal ends may leave that out)
+trap 'exit 130' HUP INT TERM
 mkdir -p -- "$2" && prefix=$(cd -- "$2" && pwd) || exit 1
 
 case ${6-} in
