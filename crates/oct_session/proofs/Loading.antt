@@ -13,6 +13,7 @@ use Rattle.oct_io.specs.Files.{Files, KeepsOthers, saved}
 use Rattle.oct_io.specs.Loaded.{loaded_of}
 use Rattle.oct_io.specs.declared.store.Loaded.{Loaded}
 use Rattle.oct_io.specs.declared.store.Loaded.TheVariants.{Bytes, Missing, TooLarge}
+use Rattle.oct_io.specs.declared.store.Store as store
 use Rattle.oct_io.specs.declared.store.StoreFault.{StoreFault}
 use Rattle.oct_io.specs.declared.store.StoreFault.TheVariants as store_fault
 use Rattle.oct_key.specs.Voxel.{Voxel, IsInMap}
@@ -26,17 +27,19 @@ use Rattle.oct_odds.specs.Update.{class_of}
 use Rattle.oct_script.specs.declared.reply.Refusal.{Refusal}
 use Rattle.oct_script.specs.declared.reply.Reply.{Reply}
 use Rattle.oct_script.specs.declared.reply.Reply.TheVariants as reply_of
-use Rattle.oct_session.specs.Commands.{FileWork, accepted, accepted_saving, changed_by, named_in}
+use Rattle.oct_session.specs.Commands.{FileWork, Puts, accepted, accepted_saving, changed_by, named_in}
 use Rattle.oct_session.specs.FileCommands.{found_in, nodes_reply, reading_reply, reading_action}
 use Rattle.oct_session.specs.FileCommands.{load_reply, classes_file, save_reply}
 use Rattle.oct_session.specs.History.{History, State, after_all}
 use Rattle.oct_session.specs.Leaving.{StandsFor, IsLike, KeepsUnsaved}
+use Rattle.oct_session.specs.Moments.{IsFileOf, SavesFile, saving_effect}
 use Rattle.oct_session.specs.Refusals.{fault_reply}
 use Rattle.oct_script.specs.Replies.{file_refusal}
 use Rattle.oct_session.specs.Session.{Effect, replied}
 use Rattle.oct_session.specs.Standing.{HasAnswered, HasDone, HasEffect, HasFailed, FindsTold}
 use Rattle.oct_session.specs.Standing.{TakesEffect}
-use Rattle.oct_session.proofs.Effects.{saves_none, same_files}
+use Rattle.oct_session.specs.declared.lent.Lent.{Lent}
+use Rattle.oct_session.proofs.Effects.{ran_out, same_files, saves_none, unasked}
 use Rattle.oct_session.proofs.MapHistory.{stands_replaced}
 use Rattle.oct_session.proofs.Readings.{IsTold, reading_told}
 use Rattle.oct_session.proofs.Replying.{refuses, no_reply}
@@ -252,18 +255,9 @@ same_file m s at =
     ∙ same_text s.base.res (classes_of s.base.odds (values_of m)) (classes_of s.base.odds s.values)
     (λ k low. ap (class_of s.base.odds) (sym (at.values k low)))
 
--- the bytes of the file that is made of a map are those of each state for which it stands
-abbrev pub IsFileOf : Map → (State → List ℕ) → List ℕ → Type 0
-IsFileOf m file bytes = (s : State) → StandsFor m s → bytes ≡ file s
-
 pub classes_saved : (m : Map) (bytes : List ℕ) → bytes ≡ bt_text m.tree.res (classes_in m.tree)
     → IsFileOf m classes_file bytes
 classes_saved m bytes is s at = is ∙ same_file m s at
-
--- what a command does that puts the file of a state under a name
-abbrev pub saving_effect : (State → List ℕ) → List ℕ → State → Effect
-saving_effect file name s =
-    replied (save_reply (file s)) [] (Some (record { name = name; bytes = file s }))
 
 -- a file that the store took
 pub save_done : (w : Option FileWork) (m : Map) (f g : Option Files)
@@ -297,14 +291,22 @@ save_failed w (Err x) fault m f g key name file named saves spelt is others same
           (λ memory. same (ap Err (sym is ∙ memory)) ∙ at.told),
     )
 
--- one that memory ran out for
-pub save_unwritten : (w : Option FileWork) (r : Result (Option Reply) StoreFault) (m : Map)
-    (f : Option Files) (name : List ℕ) (file : State → List ℕ)
-    → IsErrAnd r (λ x. x ≡ store_fault.Memory) →
-    HasEffect (λ files s. saving_effect file name s) w None m f m f None r
-save_unwritten w (Ok x) m f name file memory = absurd memory
-save_unwritten w (Err x) m f name file memory = λ files s finds at. (
-  inl refl,
-  subst (λ y. HasFailed w files s m f y) (sym memory)
-      (record { stands = at.stands; told = at.told }),
-)
+-- one that memory ran out for before the store was asked
+pub save_unasked : {K F T : Type 0} (ghosts : store.Ghosts F) (file : State → List ℕ)
+    (name : List ℕ) (d : Lent K F) (r : Result T StoreFault) (a : Option Reply)
+    → IsErrAnd r (λ x. x ≡ store_fault.Memory) → SavesFile ghosts file name d d r a
+save_unasked ghosts file name d (Ok x) a memory = absurd memory
+save_unasked ghosts file name d (Err x) a memory = record {
+  took = λ files s finds at. (
+    inl refl,
+    subst (λ y. HasFailed (Some (Puts name file)) files s d.map.now (ghosts.files d.store.now) y)
+        (sym memory) (record { stands = at.stands; told = at.told }),
+  );
+  stands = λ o some. some;
+  asks = unasked _ _ _;
+  counts = ran_out (Err x) _ _ memory refl;
+  map_name = refl;
+  store_name = refl;
+  sink_name = refl;
+  sink = refl;
+}

@@ -25,11 +25,12 @@ use Rattle.oct_session.specs.FileCommands.{groups_reply, snapshot_reply, snapsho
 use Rattle.oct_session.specs.FileCommands.{restore_reply, snapshot_file}
 use Rattle.oct_session.specs.History.{State, after_all}
 use Rattle.oct_session.specs.Leaving.{StandsFor}
+use Rattle.oct_session.specs.Moments.{IsFileOf}
 use Rattle.oct_session.specs.Refusals.{fault_reply}
 use Rattle.oct_session.specs.Standing.{HasAnswered, HasDone}
 use Rattle.oct_session.proofs.MapHistory.{stands_restored}
 use Rattle.oct_session.proofs.Replying.{refuses, no_reply}
-use Rattle.oct_session.proofs.Loading.{IsFileOf, AnswersAll}
+use Rattle.oct_session.proofs.Loading.{AnswersAll}
 use Rattle.oct_snap.specs.Nodes.{group_total, whole_text}
 use Rattle.oct_snap.specs.Reading.{Snapshot, read_snapshot}
 use Rattle.oct_snap.specs.Texts.{common_value, text_with, node_text, snap_text, head_bytes}

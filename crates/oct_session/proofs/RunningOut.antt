@@ -1,7 +1,7 @@
 -- When what the map is ordered or asked runs out of memory, or what it is to take in.
 use Rattle.std.specs.Prelude.{⊤, List}
 use Rattle.std.proofs.Common.{◌≡◌, ℕ, [], ◌∷◌, ◌⊎◌, inl, inr, zero, suc, IsSome, Result, Ok}
-use Rattle.std.proofs.Common.{Err, IsOk, OnErr, refl, ap, sym, subst, ◌∙◌, false, arith}
+use Rattle.std.proofs.Common.{Err, IsOk, OnErr, refl, sym, subst, ◌∙◌, false, arith}
 use Rattle.std.proofs.lemmas.Result.{on_err_weaker}
 use Rattle.oct_bt.proofs.Keeping.{read_keeps}
 use Rattle.oct_bt.specs.File.{FileRead, reading}

@@ -20,12 +20,13 @@ use Rattle.oct_script.specs.Lines.{Line, ended_lines, all_lines}
 use Rattle.oct_script.specs.declared.reply.Reply.{Reply}
 use Rattle.oct_script.specs.declared.verbs.FileVerb.{FileVerb}
 use Rattle.oct_session.specs.Commands.{FileWork, command_on, may_change, named_in, asks_for}
-use Rattle.oct_session.specs.Commands.{verb_work}
+use Rattle.oct_session.specs.Commands.{verb_work, Puts}
+use Rattle.oct_session.specs.FileCommands.{save_reply}
 use Rattle.oct_session.specs.History.{State}
 use Rattle.oct_session.specs.Kinds.{Names}
-use Rattle.oct_session.specs.Leaving.{Desk}
+use Rattle.oct_session.specs.Leaving.{Desk, StandsFor}
 use Rattle.oct_session.specs.Parsed.{command_in, TellsOpening}
-use Rattle.oct_session.specs.Session.{Progress, Effect, effect_of_kind, closed}
+use Rattle.oct_session.specs.Session.{Progress, Effect, effect_of_kind, replied, closed}
 use Rattle.oct_session.specs.Setup.{Setup}
 use Rattle.oct_session.specs.Standing.{with_reply, HasEffect}
 use Rattle.oct_session.specs.Standing.{Seat, seated, desk_of, KeepsStanding, Adds, HasMoved}
@@ -156,6 +157,22 @@ abbrev pub UsesFile : {K F T : Type 0} → store.Ghosts F → FileVerb → List 
 UsesFile ghosts verb name d e result reply =
     Works ghosts (λ files s. effect_of_kind files s (Names verb name)) (Some (verb_work verb name))
     None None d e result reply
+
+-- the bytes are those of a file of each state for which the map stands
+abbrev pub IsFileOf : Map → (State → List ℕ) → List ℕ → Type 0
+IsFileOf m file bytes = (s : State) → StandsFor m s → bytes ≡ file s
+
+-- what a command does that puts the file of a state under a name
+abbrev pub saving_effect : (State → List ℕ) → List ℕ → State → Effect
+saving_effect file name s =
+    replied (save_reply (file s)) [] (Some (record { name = name; bytes = file s }))
+
+-- a call that does so
+abbrev pub SavesFile : {K F T : Type 0} → store.Ghosts F → (State → List ℕ) → List ℕ → Lent K F
+    → Lent K F → Result T StoreFault → Option Reply → Type 0
+SavesFile ghosts file name d e result reply =
+    Works ghosts (λ files s. saving_effect file name s) (Some (Puts name file)) None None d e
+    result reply
 
 -- the fault that a call ended with, if one
 abbrev pub fault_in : {T E : Type 0} → Result T E → Option E

@@ -1,6 +1,6 @@
 //! What a command does that names a file: a save or a snapshot to the store, or a load or a restore
 //! from it.
-ghost use Rattle.std.specs.Prelude.{◌≡◌, [], Ok, OnErr, Some};
+ghost use Rattle.std.specs.Prelude.{◌≡◌, ℕ, List, [], Ok, OnErr, Some};
 ghost use Rattle.oct_bt.specs.File.{reading};
 ghost use Rattle.oct_bt.specs.Reading.{KeepsSome, file_progress};
 ghost use Rattle.oct_snap.specs.Reading.{read_snapshot};
@@ -10,7 +10,8 @@ ghost use Rattle.oct_session.specs.FileCommands.{restore_action, restore_reply, 
 ghost use Rattle.oct_session.specs.FileCommands.{snapshot_reply};
 ghost use Rattle.oct_session.specs.MapMemory.{ReadingTakesMemory, LoadTakesMemory};
 ghost use Rattle.oct_session.specs.MapMemory.{SnapshotTakesMemory, RestoreTakesMemory};
-ghost use Rattle.oct_session.specs.Moments.{UsesFile};
+ghost use Rattle.oct_session.specs.History.{State};
+ghost use Rattle.oct_session.specs.Moments.{UsesFile, IsFileOf, SavesFile};
 ghost use Rattle.oct_session.specs.Standing.{with_reply, HasDone};
 
 use crate::commands::refuse;
@@ -22,6 +23,22 @@ use oct_num::Memory;
 use oct_script::{FileVerb, Name, Refusal, Reply, file_refusal};
 use std::alloc::Global;
 
+/// Puts these bytes under a name of the store, and answers their length.
+fn put<K: Sink, F: Store>(
+    lent: &mut Lent<'_, K, F>,
+    name: &Name,
+    bytes: &[u8],
+    reply: &mut Option<Reply>,
+) -> Result<(), StoreFault>
+    ensures saves { (file : State → List ℕ) → IsFileOf lent.old.map.now file bytes.now
+        → SavesFile F.Store file name.now lent.old lent.new result reply.new }
+    ensures kept { lent.new.map.now ≡ lent.old.map.now }
+{
+    lent.store.save(name.as_str(), bytes)?;
+    *reply = Some(Reply::Saved(bytes.len() as u64));
+    Ok(())
+}
+
 /// Puts the file of the map's classes under a name of the store, and answers its length.
 fn save<K: Sink, F: Store>(
     lent: &mut Lent<'_, K, F>,
@@ -32,10 +49,7 @@ fn save<K: Sink, F: Store>(
     ensures kept { lent.new.map.now ≡ lent.old.map.now }
 {
     let file = lent.map.to_bt()?;
-    let bytes = file.as_slice();
-    lent.store.save(name.as_str(), bytes)?;
-    *reply = Some(Reply::Saved(bytes.len() as u64));
-    Ok(())
+    put(lent, name, file.as_slice(), reply)
 }
 
 /// Puts the classes of a file in place of the map, and answers its number of nodes.
@@ -121,10 +135,7 @@ fn snapshot<K: Sink, F: Store>(
     ensures kept { lent.new.map.now ≡ lent.old.map.now }
 {
     let file = lent.map.to_snapshot()?;
-    let bytes = file.as_slice();
-    lent.store.save(name.as_str(), bytes)?;
-    *reply = Some(Reply::Saved(bytes.len() as u64));
-    Ok(())
+    put(lent, name, file.as_slice(), reply)
 }
 
 /// Makes the map that of the snapshot of these bytes, and answers it.

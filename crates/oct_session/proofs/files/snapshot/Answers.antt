@@ -1,58 +1,14 @@
-use Rattle.std.proofs.Common.{Some, refl, ◌∙◌}
+use Rattle.std.proofs.Common.{◌∙◌}
 use Rattle.oct_session.specs.FileCommands.{snapshot_file}
-use Rattle.oct_io.specs.declared.store.StoreFault.TheVariants as store_fault
-use Rattle.oct_session.specs.Commands.{Puts}
-use Rattle.oct_session.specs.Standing.{with_reply}
-use Rattle.oct_session.proofs.Effects.{counted_done, counted_on, failed_for, ran_out}
-use Rattle.oct_session.proofs.Effects.{unasked}
-use Rattle.oct_session.proofs.Loading.{save_done, save_failed, save_unwritten}
+use Rattle.oct_session.proofs.Loading.{save_unasked}
 use Rattle.oct_session.proofs.Restoring.{values_saved}
 use Rattle.oct_session.proofs.files.snapshot.Goals as goal
 
 pub returns-in_err-file-clause-uses : goal.returns-in_err-file-clause-uses
-returns-in_err-file-clause-uses g c = record {
-  took = save_unwritten (Some (Puts c.args.name.now snapshot_file))
-      (with_reply c.from_residual.result c.args.reply.now) c.args.lent.now.map.now _
-      c.args.name.now snapshot_file
-      (failed_for _ c.args.reply.now store_fault.Memory c.from_residual.ensures.1);
-  stands = λ o some. some;
-  asks = unasked _ _ _;
-  counts = ran_out _ _ _ c.from_residual.ensures.1 refl;
-  map_name = refl;
-  store_name = refl;
-  sink_name = refl;
-  sink = refl;
-}
-
-pub returns-in_err-save-clause-uses : goal.returns-in_err-save-clause-uses
-returns-in_err-save-clause-uses g c = record {
-  took = save_failed (Some (Puts c.args.name.now snapshot_file))
-      (with_reply c.from_residual-in_err-save.result c.args.reply.now) _ c.args.lent.now.map.now
-      _ _ c.as_str.result.now c.args.name.now snapshot_file refl refl c.as_str.ensures
-      (failed_for _ c.args.reply.now _ c.from_residual-in_err-save.ensures.1)
-      c.in_err-save.ensures.others c.in_err-save.ensures.unsaved;
-  stands = λ o some. some;
-  asks = record { unasked = λ none. cc; few = c.save.ensures.called };
-  counts = counted_on _ _ _ _ c.from_residual-in_err-save.ensures.1 c.in_err-save.ensures.counts;
-  map_name = refl;
-  store_name = refl;
-  sink_name = refl;
-  sink = refl;
-}
+returns-in_err-file-clause-uses g c =
+    save_unasked g.F.Store snapshot_file c.args.name.now c.args.lent.now _ c.args.reply.now
+    c.from_residual.ensures.1
 
 pub returns-clause-uses : goal.returns-clause-uses
-returns-clause-uses g c = record {
-  took = save_done (Some (Puts c.args.name.now snapshot_file)) c.args.lent.now.map.now _ _
-      c.as_str.result.now c.args.name.now c.as_slice-bytes.result.now _ snapshot_file
-      c.as_str.ensures
-      (values_saved c.args.lent.now.map.now c.as_slice-bytes.result.now
-      (c.as_slice-bytes.ensures.value ∙ c.in_ok-file.ensures.snapshot)) refl
-      c.in_ok-save.ensures.saved;
-  stands = λ o some. some;
-  asks = record { unasked = λ none. cc; few = c.save.ensures.called };
-  counts = counted_done _ _ _ _ c.in_ok-save.ensures.counts;
-  map_name = refl;
-  store_name = refl;
-  sink_name = refl;
-  sink = refl;
-}
+returns-clause-uses g c = c.put.ensures.saves snapshot_file
+    (values_saved c.args.lent.now.map.now _ (c.as_slice.ensures.value ∙ c.in_ok-file.ensures.snapshot))
