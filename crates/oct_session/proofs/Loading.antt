@@ -27,7 +27,8 @@ use Rattle.oct_odds.specs.Update.{class_of}
 use Rattle.oct_script.specs.declared.reply.Refusal.{Refusal}
 use Rattle.oct_script.specs.declared.reply.Reply.{Reply}
 use Rattle.oct_script.specs.declared.reply.Reply.TheVariants as reply_of
-use Rattle.oct_session.specs.Commands.{FileWork, Puts, accepted, accepted_saving, changed_by, named_in}
+use Rattle.oct_session.specs.Commands.{FileWork, Puts, accepted, accepted_saving, changed_by}
+use Rattle.oct_session.specs.Commands.{named_in}
 use Rattle.oct_session.specs.FileCommands.{found_in, nodes_reply, reading_reply, reading_action}
 use Rattle.oct_session.specs.FileCommands.{load_reply, classes_file, save_reply}
 use Rattle.oct_session.specs.History.{History, State, after_all}

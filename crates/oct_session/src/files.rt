@@ -8,9 +8,9 @@ ghost use Rattle.oct_session.specs.FileCommands.{load_action, load_reply, readin
 ghost use Rattle.oct_session.specs.FileCommands.{reading_reply};
 ghost use Rattle.oct_session.specs.FileCommands.{restore_action, restore_reply, snapshot_action};
 ghost use Rattle.oct_session.specs.FileCommands.{snapshot_reply};
+ghost use Rattle.oct_session.specs.History.{State};
 ghost use Rattle.oct_session.specs.MapMemory.{ReadingTakesMemory, LoadTakesMemory};
 ghost use Rattle.oct_session.specs.MapMemory.{SnapshotTakesMemory, RestoreTakesMemory};
-ghost use Rattle.oct_session.specs.History.{State};
 ghost use Rattle.oct_session.specs.Moments.{UsesFile, IsFileOf, SavesFile};
 ghost use Rattle.oct_session.specs.Standing.{with_reply, HasDone};
 
@@ -99,17 +99,13 @@ fn take_in(
         map.old map.new (with_reply result reply.new) }
     ensures memory { OnErr result (LoadTakesMemory loaded) }
 {
-    match loaded {
-        Loaded::Bytes(bytes) => load_bytes(alloc, map, bytes.as_slice(), reply),
-        Loaded::Missing => {
-            *reply = Some(Reply::Refused(Refusal::NoFile));
-            Ok(())
-        }
-        Loaded::TooLarge => {
-            *reply = Some(Reply::Refused(Refusal::FileTooLarge));
-            Ok(())
-        }
-    }
+    let refusal = match loaded {
+        Loaded::Bytes(bytes) => return load_bytes(alloc, map, bytes.as_slice(), reply),
+        Loaded::Missing => Refusal::NoFile,
+        Loaded::TooLarge => Refusal::FileTooLarge,
+    };
+    *reply = Some(Reply::Refused(refusal));
+    Ok(())
 }
 
 /// Loads the file of this name of the store, and answers it.
@@ -160,17 +156,13 @@ fn take_back(map: &mut OccMap, loaded: Loaded, reply: &mut Option<Reply>) -> Res
         (λ s. restore_action s.base (Some loaded)) map.old map.new (with_reply result reply.new) }
     ensures memory { OnErr result (RestoreTakesMemory map.old loaded) }
 {
-    match loaded {
-        Loaded::Bytes(bytes) => restore_bytes(map, bytes.as_slice(), reply),
-        Loaded::Missing => {
-            *reply = Some(Reply::Refused(Refusal::NoFile));
-            Ok(())
-        }
-        Loaded::TooLarge => {
-            *reply = Some(Reply::Refused(Refusal::FileTooLarge));
-            Ok(())
-        }
-    }
+    let refusal = match loaded {
+        Loaded::Bytes(bytes) => return restore_bytes(map, bytes.as_slice(), reply),
+        Loaded::Missing => Refusal::NoFile,
+        Loaded::TooLarge => Refusal::FileTooLarge,
+    };
+    *reply = Some(Reply::Refused(refusal));
+    Ok(())
 }
 
 /// Restores the snapshot of this name of the store, and answers it.

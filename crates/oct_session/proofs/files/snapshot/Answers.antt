@@ -11,4 +11,5 @@ returns-in_err-file-clause-uses g c =
 
 pub returns-clause-uses : goal.returns-clause-uses
 returns-clause-uses g c = c.put.ensures.saves snapshot_file
-    (values_saved c.args.lent.now.map.now _ (c.as_slice.ensures.value ∙ c.in_ok-file.ensures.snapshot))
+    (values_saved c.args.lent.now.map.now _
+    (c.as_slice.ensures.value ∙ c.in_ok-file.ensures.snapshot))
