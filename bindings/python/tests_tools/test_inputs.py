@@ -13,6 +13,7 @@ from unittest import mock
 import numpy as np
 from running import DATA, InFolder
 
+from octofix import clouds
 from octofix.tools.kinds import UTF_16
 
 PCD = "VERSION 0.7\nFIELDS a x y z\nSIZE 4 4 4 4\nTYPE F F F F\nCOUNT 1 1 1 1\n"
@@ -278,6 +279,48 @@ class Kinds(Inputs):
         self.write("poses", "1 0 0 0 0 0 0 1\n".encode("utf-16"))
         words = ["map", "--res", 1, DATA / "corner.xyz", "--poses", "poses", "-o", "a.bt"]
         self.refused(f"poses: it is {UTF_16}", *words)
+
+
+class Cut(Inputs):
+    """A text may have been cut within its last number, which is said once, and the number taken."""
+
+    def expect(self, content, line=None, name="a.txt"):
+        """That line of the file is told, or none."""
+        self.write(name, content)
+        words = "map", "--res", 1, "--quiet", "--jobs", 2, name, "-o", "a.bt"
+        said = f"{name}:{line}: the last line has no end (LF), so the file may have been cut"
+        self.assertEqual(self.done(*words).said, f"octofix: {said}\n" if line else "")
+
+    def test_without_a_number_of_points(self):
+        for front in ("1 2 3\n", "x,y,z\n", "NODE 0 0 0 0 0 0\n", "NODE 1 1 1 0 0 0\n1 2 3\n" * 2):
+            row = "4,5,6.25" if "," in front else "4 5 6.25"
+            line = front.count("\n") + 1
+            for content in (row, row[:-1], row + "\r", row + " "):
+                self.expect(front + content, line)
+            for content in (row + "\n", row + "\r\n", row + "\n#7"):
+                self.expect(front + content)
+        for content in ("1 2 3\n//7", "1 2 3\n \t"):
+            self.expect(content)
+
+    def test_with_a_number_of_points(self):
+        """What follows the coordinates of the last one doesn't matter."""
+        head = PCD.replace("a x y z", "x y z a") + "POINTS 1\nDATA ascii\n"
+        self.expect(head + "1 2 3 4")
+        head = PCD + "POINTS 1\nDATA ascii\n"
+        self.expect(head + "4 1 2 3.5", 8)
+        self.expect(head + "4 1 2 3.5\n")
+        head = PLY.format("ascii 1.0")
+        self.expect(head + "end_header\n1 2 3\n4 5 6", 9)
+        self.expect(head + "end_header\n1 2 3\n4 5 6\n")
+        self.expect(head + "element face 0\nend_header\n1 2 3\n4 5 6", 10)
+        self.expect(head + "element face 1\nproperty char a\nend_header\n1 2 3\n4 5 6\n7")
+        self.expect(head + "property int a\nend_header\n1 2 3 7\n4 5 6 7")
+
+    def test_for_programs(self):
+        self.write("a.txt", "1 2 3\n4 5 6")
+        (cloud,) = clouds.read("a.txt")
+        said = "a.txt:2: the last line has no end (LF), so the file may have been cut"
+        self.assertEqual(cloud.notes, (said,))
 
 
 class Damaged(Inputs):

@@ -58,7 +58,15 @@ def text_of(name):
 
 def tell_cut(name, text):
     """Says so where the last line has no end, since its last number may have lost digits."""
-    last = text.rpartition("\n")[2]
-    if last.strip() and not last.lstrip().startswith("#"):
-        line = text.count("\n") + 1
-        say(f"{name}:{line}: the last line has no end (LF), so the file may have been cut")
+    said = cut_of(name, text.encode())
+    if said:
+        say(said)
+
+
+def cut_of(name, content):
+    """What is said where the last line of a text has no end, or None."""
+    last = content[content.rfind(b"\n") + 1 :].strip()
+    if not last or last.startswith((b"#", b"//")):
+        return None
+    line = content.count(b"\n") + 1
+    return f"{name}:{line}: the last line has no end (LF), so the file may have been cut"

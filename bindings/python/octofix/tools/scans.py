@@ -124,6 +124,8 @@ class Scans:
         self.clouds += 1
         for note in cloud.notes:
             self._say_once(note, cloud.name)
+        if cloud.cut:
+            say(cloud.cut)
         try:
             pose = self._pose_of(number, cloud)
             if pose is not None:

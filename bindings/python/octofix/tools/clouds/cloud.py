@@ -14,7 +14,8 @@ class Cloud:
 
     points: (n, 3) in metres, of any kind of numbers; pose: where the file says that the sensor
     stood, or None; time: in seconds, or None; notes: what is said of how the file was read; gap:
-    why there is no pose where there should be one.
+    why there is no pose where there should be one; cut: what is said of a file that may have been
+    cut in its last number, or None.
     """
 
     name: str
@@ -23,6 +24,7 @@ class Cloud:
     time: float = None
     notes: tuple = ()
     gap: str = None
+    cut: str = None
 
 
 def xyz_of(records, names=AXES):

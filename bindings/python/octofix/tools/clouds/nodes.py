@@ -4,6 +4,7 @@ import math
 import re
 
 from ..errors import Unusable, on_line
+from ..kinds import cut_of
 from ..poses import Pose, numbers_of, of_angles
 from .cloud import Cloud
 from .tables import table_of
@@ -25,7 +26,9 @@ def read(name, content, reading):
         counted = head.start()
         pose = _pose_of(head[0].decode("ascii", "replace"), line)
         body = content[head.end() + 1 : end]
-        yield Cloud(f"{name} node {number}", table_of(body, [0, 1, 2], line + 1), pose)
+        points = table_of(body, [0, 1, 2], line + 1)
+        cut = cut_of(name, content) if end == len(content) else None
+        yield Cloud(f"{name} node {number}", points, pose, cut=cut)
 
 
 def _pose_of(row, line):

@@ -6,6 +6,7 @@ import numpy as np
 
 from ..errors import Unusable, on_line
 from ..files import expect_room
+from ..kinds import cut_of
 from ..memory import free_memory
 from ..poses import Pose, numbers_of
 from .cloud import Cloud, only, stacked, xyz_of
@@ -33,6 +34,10 @@ class _Header:
     viewpoint: Pose
     lines: int
 
+    def ends_with_axis(self):
+        """Whether the last number of a text is a coordinate."""
+        return self.form == "ascii" and len(self.types) - 1 in self.places
+
     def layout(self):
         """x, y and z in a record, at their places."""
         sizes = [np.dtype(it).itemsize * many for it, many in zip(self.types, self.repeats)]
@@ -50,7 +55,8 @@ def read(name, content, reading):
     body = memoryview(content)[start:]
     points = {"ascii": _of_text, "binary": _of_records, "binary_compressed": _of_compressed}
     pose = None if header.viewpoint.is_identity() else header.viewpoint
-    return only(Cloud(name, points[header.form](body, header), pose))
+    cut = cut_of(name, content) if header.ends_with_axis() else None
+    return only(Cloud(name, points[header.form](body, header), pose, cut=cut))
 
 
 def _header_of(content, asked):

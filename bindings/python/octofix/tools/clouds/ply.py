@@ -5,6 +5,7 @@ from dataclasses import dataclass, field
 import numpy as np
 
 from ..errors import Unusable, on_line
+from ..kinds import cut_of
 from .cloud import Cloud, only, xyz_of
 from .columns import AXES, places_of
 from .headers import count_of, header_lines
@@ -43,13 +44,17 @@ def read(name, content, reading):
     before, vertex, after = elements[:at], elements[at], elements[at + 1 :]
     with on_line(vertex.line):
         places = places_of(vertex.names, len(vertex.names), reading.columns, "its vertex")
+    cut = None
     if form == "ascii":
         points = _of_text(content, start, len(lines), elements, vertex, places)
+        # (what stands behind the coordinates isn't read)
+        if len(vertex.names) - 1 in places and not any(it.many for it in after):
+            cut = cut_of(name, content)
     else:
         start += sum(it.many * it.size() for it in before)
         points = _of_records(content, start, ORDERS[form], vertex, places)
         _check_end(content, start + vertex.many * vertex.size(), ORDERS[form], after)
-    return only(Cloud(name, points))
+    return only(Cloud(name, points, cut=cut))
 
 
 def _elements_of(lines):

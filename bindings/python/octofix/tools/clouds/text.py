@@ -4,6 +4,7 @@ import re
 from dataclasses import dataclass, field
 
 from ..errors import Unusable, on_line
+from ..kinds import cut_of
 from ..poses import is_number
 from .cloud import Cloud, only
 from .columns import AXES, places_of
@@ -17,6 +18,7 @@ def read(name, content, reading):
     """One cloud. Words are parted by blanks, commas or semicolons; lines that begin with '#' or
     '//' are comments, and one line before the numbers may name the columns, as one too. Three
     columns without names are x, y and z; of more it has to be said which they are."""
+    cut = cut_of(name, content)
     content = content.removeprefix(b"\xef\xbb\xbf")
     front = _front_of(content)
     body = content[front.length :]
@@ -27,7 +29,7 @@ def read(name, content, reading):
     # (whoever asks for columns knows that lines may have words beyond them)
     width = None if asked else front.width
     points = table_of(body, columns, front.lines + 1, front.delimiter, width=width)
-    return only(Cloud(name, points, notes=notes))
+    return only(Cloud(name, points, notes=notes, cut=cut))
 
 
 @dataclass(frozen=True)
