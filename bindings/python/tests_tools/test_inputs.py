@@ -1,6 +1,7 @@
 """What isn't clear in a file is refused and not guessed, in one line with the file's name, and so
 is every other kind of file."""
 
+import contextlib
 import gzip
 import importlib.util
 import io
@@ -245,14 +246,32 @@ class Kinds(Inputs):
             self.is_refused(said, b"LASF" + bytes(400), name="a.las", status=4)
 
     def test_las_by_a_stand_in(self):
-        """What laspy documents: `read` of a stream, and x, y and z of it, scaled."""
+        """What laspy documents: `open` of a stream, its header, and `read` of all points, whose x,
+        y and z are scaled."""
         cloud = types.SimpleNamespace(x=[1.5, 4], y=[2, 5], z=[3, 6])
-        laspy = types.SimpleNamespace(read=mock.Mock(return_value=cloud))
-        with mock.patch.dict(sys.modules, laspy=laspy):
+        header = types.SimpleNamespace(point_count=2, point_format=types.SimpleNamespace(size=20))
+        file = types.SimpleNamespace(header=header, read=mock.Mock(return_value=cloud))
+        laspy = types.SimpleNamespace(open=mock.Mock(return_value=contextlib.nullcontext(file)))
+        free = mock.patch("octofix.tools.clouds.las.free_memory", lambda: 4_000_000)
+        with mock.patch.dict(sys.modules, laspy=laspy), free:
             self.assertEqual(self.points(b"LASF.."), ["1.5 2 3", "4 5 6"])
-            self.assertEqual(laspy.read.call_args[0][0].getvalue(), b"LASF..")
-            laspy.read.side_effect = RuntimeError("no backend\nfor LAZ")
-            said = ": it can't be read as a LAS file: RuntimeError no backend\\nfor LAZ"
+            self.assertEqual(laspy.open.call_args[0][0].getvalue(), b"LASF..")
+            header.point_count = 100_000
+            self.assertEqual(self.points(b"LASF.."), ["1.5 2 3", "4 5 6"])
+            for it, why in ((file.read, "no backend\nfor LAZ"), (laspy.open, "no header\nat all")):
+                it.side_effect = RuntimeError(why)
+                said = f": it can't be read as a LAS file: RuntimeError {why}"
+                self.is_refused(said.replace("\n", "\\n"), b"LASF..", name="a.laz")
+
+    def test_what_is_packed_in_a_las(self):
+        """It isn't unpacked where the points of the header have no room."""
+        header = types.SimpleNamespace(point_count=100_001)
+        header.point_format = types.SimpleNamespace(size=20)
+        file = contextlib.nullcontext(types.SimpleNamespace(header=header))
+        free = mock.patch("octofix.tools.clouds.las.free_memory", lambda: 4_000_000)
+        laspy = types.SimpleNamespace(open=lambda _: file)
+        with mock.patch.dict(sys.modules, laspy=laspy), free:
+            said = ": it is too large, or has no end: memory has room for 2,000,000 bytes"
             self.is_refused(said, b"LASF..", name="a.laz")
 
     def test_empty(self):
