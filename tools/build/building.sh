@@ -47,14 +47,24 @@ jobs_at_once() {
     echo "${OCTOMAP_JOBS:-$((jobs > 1 ? jobs : 1))}"
 }
 
+# Runs a script of this folder, for which a Ctrl-C waits while Python starts: it would give a
+# traceback there.
+run_script() {
+    script=$1
+    shift
+    block=--block-signal=INT
+    env "$block" true 2>/dev/null || block=
+    env ${block:+"$block"} "$root/tools/build/$script" "$@" </dev/null
+}
+
 build_proved() {
     say "$crate is proved now, which takes minutes; the kit's own words go to $log"
-    "$root/tools/build/proved.py" "$crate" "$(jobs_at_once)" "$log" </dev/null
+    run_script proved.py "$crate" "$(jobs_at_once)" "$log"
 }
 
 build_unproved() {
     say "$crate is built without proof now, which takes half a minute"
-    "$root/tools/build/unproved.py" "$crate" "$made" </dev/null >"$log" 2>&1
+    run_script unproved.py "$crate" "$made" >"$log" 2>&1
 }
 
 # Only the built file says that there was a build.

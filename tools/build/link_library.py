@@ -13,6 +13,7 @@ import sys
 import tempfile
 from pathlib import Path
 
+import ending
 from unproved import kit_folder
 
 SHOWN = "{ global: octofix_*; local: *; };\n"
@@ -50,4 +51,5 @@ def main(archive, name, folder):
 if __name__ == "__main__":
     if len(sys.argv) != 4:
         sys.exit(__doc__)
-    main(*sys.argv[1:])
+    with ending.silent():
+        main(*sys.argv[1:])

@@ -30,6 +30,7 @@ import time
 from concurrent.futures import FIRST_COMPLETED, ThreadPoolExecutor, wait
 
 import crates
+import ending
 from unproved import TARGET, kit_folder
 
 PLACE = crates.ROOT / "crates/octomap_cli/out/rlib"
@@ -262,4 +263,5 @@ def main(options):
 
 
 if __name__ == "__main__":
-    sys.exit(main(arguments()))
+    with ending.silent():
+        sys.exit(main(arguments()))
