@@ -6,8 +6,10 @@
 set -eu
 
 here=$(CDPATH='' cd -- "$(dirname -- "$0")" && pwd)
-[ $# -gt 0 ] || "$here/../octomap" session 0.05 </dev/null
-program=$(realpath -- "${1:-$here/../crates/octomap_cli/out/octomap_cli}")
+root=$here/..
+. "$root/tools/check/options.sh" || exit 1
+take_options --proved "$@"
+need_program
 folder=$(mktemp -d)
 trap 'rm -rf -- "$folder"' EXIT
 failed=0

@@ -5,23 +5,25 @@
 # against that of one map, by medians of five runs. Fails where a map is another one, or where 4
 # threads aren't 2.8 times as fast, or 8 threads 4 times. A run may differ by half from the next.
 #
-#     bench/cores.sh FOLDER [THREADS..]
+#     THREADS="2 4 8" bench/cores.sh [--library FOLDER]
 #
-# FOLDER has liboctofix.a as `bindings/library --proved FOLDER` links it, since others check at run
-# time. THREADS are 2, 4 and 8 where none are given. Needs g++ and some minutes.
+# The library has to be proved, since others check at run time. THREADS are 2, 4 and 8 where it
+# isn't set. Needs g++ and some minutes.
 
 runs=5
 
 set -eu
 
 here=$(CDPATH='' cd -- "$(dirname -- "$0")" && pwd)
-library=$(realpath -- "${1:?the folder of the library}")
-shift
-[ $# -gt 0 ] || set -- 2 4 8
+root=$here/..
+. "$root/tools/check/options.sh" || exit 1
+take_options --proved "$@"
 folder=$(mktemp -d)
 trap 'rm -rf -- "$folder"' EXIT
+need_library "$folder/library"
 
 g++ -std=c++17 -O2 -I"$here/../bindings/c" -I"$here/../bindings/cpp" -o "$folder/cores" \
     -Wl,--wrap=octofix_scan,--wrap=octofix_merge "$here/cores.cpp" \
     "$library/liboctofix.a" -pthread
-"$folder/cores" "$runs" "$@"
+# (the numbers are parted here)
+"$folder/cores" "$runs" ${THREADS-2 4 8}

@@ -6,11 +6,13 @@
 set -eu
 
 here=$(CDPATH='' cd -- "$(dirname -- "$0")" && pwd)
-program=$here/../crates/octomap_cli/out/octomap_cli
+root=$here/..
+. "$root/tools/check/options.sh" || exit 1
+take_options --proved "$@"
+need_program
 folder=$(mktemp -d)
 trap 'rm -rf -- "$folder"' EXIT
 
-"$here/../octomap" session 0.05 </dev/null
 
 # Runs the program, and prints its seconds and its peak memory in kilobytes.
 measure() {

@@ -4,10 +4,9 @@
 # nanoseconds, milliseconds and bytes; and the instructions of scans of 2,000 points, against those
 # of a session that does the same without reading the script.
 #
-#     bench/library_speed.sh FOLDER [PROGRAM]
+#     bench/library_speed.sh [--program FILE] [--library FOLDER]
 #
-# FOLDER has liboctofix.a, and PROGRAM is the built one where it isn't given. Both have to be proved
-# builds, since others check at run time. Needs gcc and valgrind. The times are the least of seven
+# Both have to be proved builds, since others check at run time. Needs gcc and valgrind. The times are the least of seven
 # runs, and stand on a machine that does nothing else.
 
 set -eu
@@ -19,10 +18,13 @@ most_empty=4096     # bytes
 most_scan=1.02      # times the session
 
 here=$(CDPATH='' cd -- "$(dirname -- "$0")" && pwd)
-library=$(realpath -- "${1:?the folder of the library}")
-program=$(realpath -- "${2:-$here/../crates/octomap_cli/out/octomap_cli}")
+root=$here/..
+. "$root/tools/check/options.sh" || exit 1
+take_options --proved "$@"
+need_program
 folder=$(mktemp -d)
 trap 'rm -rf -- "$folder"' EXIT
+need_library "$folder/library"
 failed=0
 
 # The instructions that a command takes; what it prints goes to the file 'replies'.

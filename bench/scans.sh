@@ -10,11 +10,13 @@ most_kilobytes=18432
 most_growth=4
 
 here=$(CDPATH='' cd -- "$(dirname -- "$0")" && pwd)
-program=$here/../crates/octomap_cli/out/octomap_cli
+root=$here/..
+. "$root/tools/check/options.sh" || exit 1
+take_options --proved "$@"
+need_program
 folder=$(mktemp -d)
 trap 'rm -rf -- "$folder"' EXIT
 
-"$here/../octomap" session 0.05 </dev/null
 python3 "$here/make_scans.py" 1 5 500 >"$folder/small"
 python3 "$here/make_scans.py" 1 5 2000 >"$folder/large"
 

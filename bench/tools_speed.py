@@ -1,10 +1,9 @@
 #!/usr/bin/env python3
 """Measures the tools of the Python package against their limits:
 
-    bench/tools_speed.py FOLDER PROGRAM
+    bench/tools_speed.py [--program FILE] [--library FOLDER]
 
-FOLDER has liboctofix.so.1, and PROGRAM is the program octomap. Prints, and ends with 1 where a
-limit isn't kept:
+Prints, and ends with 1 where a limit isn't kept:
 
 - 500 clouds of 2,000 points made a map, in seconds of processor time, in at most 1.5 times what a
   session takes for the same script;
@@ -21,7 +20,11 @@ from pathlib import Path
 
 import numpy as np
 
-PACKAGE = Path(__file__).resolve().parent.parent / "bindings" / "python"
+ROOT = Path(__file__).resolve().parents[1]
+sys.path.append(str(ROOT / "tools/check"))
+import options  # noqa: E402
+
+PACKAGE = ROOT / "bindings/python"
 CLOUDS, POINTS, MANY = 500, 2_000, 1_000_000
 RATIO, SECONDS, MEGABYTES = 1.5, 2.0, 100
 # A cloud that is read and placed, and not mapped: its points lie in two voxels.
@@ -108,6 +111,5 @@ def main(folder, program):
 
 
 if __name__ == "__main__":
-    if len(sys.argv) != 3:
-        sys.exit(__doc__.strip())
-    sys.exit(main(*sys.argv[1:]) and 1)
+    given = options.parser(__doc__).parse_args()
+    sys.exit(main(options.library_of(given), options.program_of(given)) and 1)

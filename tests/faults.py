@@ -4,7 +4,7 @@ closed pipe, an input that breaks off, a folder in place of a file, a folder tha
 in or is gone, and a kill in the middle of a save. Fails where a status, a reply or a file is
 another one than docs/FORMATS.md says.
 
-    tests/faults.py [PROGRAM]
+    tests/faults.py [--program FILE]
 
 What needs leave that the caller lacks (a file system of its own) is left out, and said so. A kill
 is tried at moments spread over the time that a save takes. Needs Linux.
@@ -19,8 +19,10 @@ import time
 from pathlib import Path
 
 HERE = Path(__file__).resolve().parent
-PROGRAM = str(Path(sys.argv[1] if len(sys.argv) > 1 else
-                   HERE.parent / "crates/octomap_cli/out/octomap_cli").resolve())
+sys.path.append(str(HERE.parent / "tools/check"))
+import options  # noqa: E402
+
+PROGRAM = options.program(__doc__)
 SESSION = [PROGRAM, "session", "0.1"]
 READ, WRITE, STORE = 5, 6, 8
 NOBODY = 65534

@@ -1,7 +1,7 @@
 #!/usr/bin/env python3
 """Tries grids and scenes of the program at their limits, and reads them with programs of others.
 
-    tests/grids.py [PROGRAM]
+    tests/grids.py [--program FILE]
 
 A picture of exactly 2^26 columns, its time beside it, and one of a column more; a scene of exactly
 1,000,000 boxes, and one of a box more. What is wanted is worked out here, from how the files were
@@ -17,8 +17,10 @@ import time
 from pathlib import Path
 
 HERE = Path(__file__).resolve().parent
-PROGRAM = str(Path(sys.argv[1] if len(sys.argv) > 1 else
-                   HERE.parent / "crates/octomap_cli/out/octomap_cli").resolve())
+sys.path.append(str(HERE.parent / "tools/check"))
+import options  # noqa: E402
+
+PROGRAM = options.program(__doc__)
 HEADER = b"# Octomap OcTree binary file\nid OcTree\nsize %d\nres 0.1\ndata\n"
 LOW, SPANS = "-3276.8", 8**6
 failed = 0

@@ -2,10 +2,9 @@
 """Has the OctoMap library read the files of this program, and the program those of the library, and
 counts what the library's insertion of five scans of 500 points takes.
 
-    tests/library.py [PROGRAM ..]
+    tests/library.py [--program FILE] [WORD ..]
 
-PROGRAM is the built one where it isn't given; several words are a command, as 'python3
-tests/model'. Needs the library with its tools and headers, and g++ and valgrind (on Debian and
+The words are a command in place of the program, as 'python3 tests/model'. Needs the library with its tools and headers, and g++ and valgrind (on Debian and
 Ubuntu: octomap-tools, liboctomap-dev, g++, valgrind). Fails where a file is read as another map
 than it is. It says how many voxels the two know otherwise where both insert the same scans; that is
 no fault, since the library steps along a beam in floating point.
@@ -18,9 +17,20 @@ import tempfile
 from pathlib import Path
 
 HERE = Path(__file__).resolve().parent
-BUILT = HERE.parent / "crates/octomap_cli/out/octomap_cli"
-WORDS = [str(Path(it).resolve()) if Path(it).exists() else it for it in sys.argv[1:]]
-PROGRAM = WORDS or [str(BUILT)]
+sys.path.append(str(HERE.parent / "tools/check"))
+import options  # noqa: E402
+
+
+def command():
+    """The command whose files are compared."""
+    parser = options.parser(__doc__)
+    parser.add_argument("words", nargs="*")
+    given = parser.parse_args()
+    found = [str(Path(it).resolve()) if Path(it).exists() else it for it in given.words]
+    return found or [options.program_of(given)]
+
+
+PROGRAM = command()
 HEAD = b"# Octomap OcTree binary file\nid OcTree\nsize %d\nres 0.1\ndata\n"
 failed = 0
 

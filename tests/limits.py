@@ -2,7 +2,7 @@
 """Measures the peak memory of the program on inputs as large as its limits let them be, and fails
 where one takes more than it may, or ends with another status than it should.
 
-    tests/limits.py [PROGRAM]
+    tests/limits.py [--program FILE]
 
 Needs Linux, a C compiler (cc) for the few lines that measure, 1.1 GB of disk and 3 GB of memory.
 """
@@ -13,9 +13,10 @@ import sys
 import tempfile
 from pathlib import Path
 
-HERE = Path(__file__).resolve().parent
-PROGRAM = str(Path(sys.argv[1] if len(sys.argv) > 1 else
-                   HERE.parent / "crates/octomap_cli/out/octomap_cli").resolve())
+sys.path.append(str(Path(__file__).resolve().parents[1] / "tools/check"))
+import options  # noqa: E402
+
+PROGRAM = options.program(__doc__)
 
 # A process that Python starts begins with Python's own peak, and one that this starts doesn't.
 PEAK = r"""

@@ -4,7 +4,7 @@ own, until a run asks for no more than was granted; over a session in which ever
 and over each other task. Each run must end with the whole answer, or out of memory with a beginning
 of it, and with the files that stand after the lines that were answered, or after one line more.
 
-    tests/refused.py [PROGRAM]
+    tests/refused.py [--program FILE]
 
 Needs Linux and a C compiler (cc), for the few lines that count the requests.
 """
@@ -14,9 +14,10 @@ import sys
 import tempfile
 from pathlib import Path
 
-HERE = Path(__file__).resolve().parent
-PROGRAM = str(Path(sys.argv[1] if len(sys.argv) > 1 else
-                   HERE.parent / "crates/octomap_cli/out/octomap_cli").resolve())
+sys.path.append(str(Path(__file__).resolve().parents[1] / "tools/check"))
+import options  # noqa: E402
+
+PROGRAM = options.program(__doc__)
 OUT_OF_MEMORY = 7
 
 REFUSE = r"""

@@ -2,9 +2,9 @@
 """Compares clouds that other programs write with what the tools read of them, and points that the
 tools write with what others read:
 
-    tests/tools_formats.py FOLDER
+    tests/tools_formats.py [--library FOLDER]
 
-FOLDER has liboctofix.so.1. Needs numpy, Open3D, meshio and the tools of the Point Cloud Library
+Needs numpy, Open3D, meshio and the tools of the Point Cloud Library
 (in Debian python3-numpy, python3-open3d, python3-meshio, pcl-tools). Ends with 1 where something
 differs.
 """
@@ -14,7 +14,11 @@ import sys
 import tempfile
 from pathlib import Path
 
-PACKAGE = Path(__file__).resolve().parent.parent / "bindings" / "python"
+ROOT = Path(__file__).resolve().parents[1]
+sys.path.append(str(ROOT / "tools/check"))
+import options  # noqa: E402
+
+PACKAGE = ROOT / "bindings/python"
 MANY = 5_000
 PCL_FORMS = ("ascii", "binary", "compressed")
 
@@ -90,9 +94,8 @@ def run():
 
 
 if __name__ == "__main__":
-    if len(sys.argv) != 2:
-        sys.exit(__doc__.strip())
-    os.environ["OCTOFIX_LIBRARY"] = str(Path(sys.argv[1], "liboctofix.so.1").resolve())
+    folder = options.library_of(options.parser(__doc__).parse_args())
+    os.environ["OCTOFIX_LIBRARY"] = str(Path(folder, "liboctofix.so.1"))
     sys.path.insert(0, str(PACKAGE))
     import meshio
     import numpy as np

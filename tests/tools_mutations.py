@@ -1,21 +1,25 @@
 #!/usr/bin/env python3
 """Feeds the tools 20,000 damaged files of all kinds that they read, or another number of them:
 
-    tests/tools_mutations.py FOLDER [MANY]
+    tests/tools_mutations.py [--library FOLDER] [MANY]
 
-FOLDER has liboctofix.so.1. Each has to end in one line, with a status of docs/TOOLS.md, and to
-leave an old file as it was. Bags are among them where rosbag is there. Needs numpy. Ends with 1
-where one doesn't, and names its seed.
+Each has to end in one line, with a status of docs/TOOLS.md, and to leave an old file as it was.
+Bags are among them where rosbag is there. Needs numpy. Ends with 1 where one doesn't, and names its
+seed.
 """
 import os
 import subprocess
 import sys
 from pathlib import Path
 
-PACKAGE = Path(__file__).resolve().parent.parent / "bindings" / "python"
+ROOT = Path(__file__).resolve().parents[1]
+sys.path.append(str(ROOT / "tools/check"))
+import options  # noqa: E402
+
+PACKAGE = ROOT / "bindings/python"
 
 
-def main(folder, many="20000"):
+def main(folder, many):
     places = {
         "OCTOFIX_LIBRARY": str(Path(folder, "liboctofix.so.1").resolve()),
         "OCTOFIX_MUTATIONS": many,
@@ -27,6 +31,7 @@ def main(folder, many="20000"):
 
 
 if __name__ == "__main__":
-    if not 2 <= len(sys.argv) <= 3:
-        sys.exit(__doc__.strip())
-    sys.exit(main(*sys.argv[1:]) and 1)
+    parser = options.parser(__doc__)
+    parser.add_argument("many", nargs="?", default="20000", metavar="MANY")
+    given = parser.parse_args()
+    sys.exit(main(options.library_of(given), given.many) and 1)

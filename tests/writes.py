@@ -3,7 +3,7 @@
 questions of one read are written by more writes than they need, where two edits share a write, or
 where a reply isn't there before the next line is asked.
 
-    tests/writes.py [PROGRAM]
+    tests/writes.py [--program FILE]
 
 The replies go into a socket that keeps each write as a message of its own. Needs Linux.
 """
@@ -14,9 +14,10 @@ import sys
 import tempfile
 from pathlib import Path
 
-HERE = Path(__file__).resolve().parent
-PROGRAM = str(Path(sys.argv[1] if len(sys.argv) > 1 else
-                   HERE.parent / "crates/octomap_cli/out/octomap_cli").resolve())
+sys.path.append(str(Path(__file__).resolve().parents[1] / "tools/check"))
+import options  # noqa: E402
+
+PROGRAM = options.program(__doc__)
 SESSION = [PROGRAM, "session", "0.1"]
 MOST_READ = 16 * 1024
 MOST_HELD = 4096

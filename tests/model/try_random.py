@@ -2,12 +2,11 @@
 """Makes random scripts and files, and compares what the program makes of them with what the model
 does: what is written, the status, and the files that stand afterwards.
 
-    tests/model/try_random.py FIRST LAST [--program P] [--without COMMAND,..]
+    tests/model/try_random.py FIRST LAST [--program FILE] [--without COMMAND,..]
 
 makes one session for each seed from FIRST to LAST. Prints the first that ends otherwise, and then
-ends with 1. The program is the launcher ./octomap where it isn't given.
+ends with 1.
 """
-import argparse
 import os
 import random
 import subprocess
@@ -19,7 +18,9 @@ sys.dont_write_bytecode = True
 import scripts
 import tasks
 
-LAUNCHER = os.path.join(os.path.dirname(os.path.abspath(__file__)), "..", "..", "octomap")
+sys.path.append(os.path.join(os.path.dirname(os.path.abspath(__file__)), "../../tools/check"))
+from options import parser, program_of  # noqa: E402
+
 ODDS = ["", "", "", "--hit 500", "--min -100 --thr -50", "--max 900 --thr 900"]
 
 
@@ -91,17 +92,17 @@ def pair_runs(draw, first, second):
 
 
 def main():
-    words = argparse.ArgumentParser(description=__doc__)
+    words = parser(__doc__)
     words.add_argument("first", type=int)
     words.add_argument("last", type=int)
-    words.add_argument("--program", default=LAUNCHER)
     words.add_argument("--without", default="")
     given = words.parse_args()
     if given.last < given.first:
         words.error("there is no seed from FIRST to LAST")
+    program = program_of(given)
     for seed in range(given.first, given.last + 1):
         for call, data, files in runs(random.Random(seed), set(given.without.split(","))):
-            right, found = wanted(call, data, files), came(given.program, call, data, files)
+            right, found = wanted(call, data, files), came(program, call, data, files)
             if right != found:
                 print(" ".join(call), data, files, "# wanted:", right, "# came:", found, sep="\n")
                 return f"the run of seed {seed}, above, ends otherwise"
