@@ -7,6 +7,7 @@ import importlib.util
 import io
 import os
 import sys
+import time
 import types
 import warnings
 from unittest import mock
@@ -190,6 +191,20 @@ class Counts(Inputs):
             bad = head.replace("list uchar short", f"list {types}")
             said = f":{line}: a property of the type list {types} isn't read"
             self.is_refused(said, bad)
+
+    def test_ply_with_many_lists(self):
+        """Behind the vertices 400,000 triangles, then four corners, then a triangle: in well below a
+        second."""
+        head = PLY.format("binary_little_endian 1.0") + "element face 400002\n"
+        head += "property list uchar short corners\nend_header\n"
+        triangle = b"\x03" + bytes(6)
+        faces = triangle * 400_000 + b"\x04" + bytes(8) + triangle
+        content = head.encode() + VERTICES.tobytes() + faces
+        began = time.process_time()
+        self.assertEqual(self.points(content), ["1 2 3", "4 5 6"])
+        self.assertLess(time.process_time() - began, 0.8)
+        self.is_refused(": its data has fewer bytes than are announced", content[:-1])
+        self.is_refused(": its data has 1 bytes more than are announced", content + b"1")
 
     def test_npy(self):
         content = npy(np.array([[1, 2, 3]]))

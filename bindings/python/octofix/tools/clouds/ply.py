@@ -16,6 +16,7 @@ TYPES |= {"uchar": "u1", "ushort": "u2", "uint": "u4", "float32": "f4", "float64
 TYPES |= {"int8": "i1", "int16": "i2", "int32": "i4", "uint8": "u1", "uint16": "u2"}
 TYPES |= {"uint32": "u4"}
 ORDERS = {"ascii": "", "binary_little_endian": "<", "binary_big_endian": ">"}
+BYTE_ORDERS = {"<": "little", ">": "big"}
 
 
 @dataclass
@@ -128,7 +129,9 @@ def _check_end(content, at, order, elements):
         if not it.has_lists():
             at += it.many * it.size()
             continue
-        for _ in range(it.many):
+        alike = _many_alike(content, at, order, it)
+        at += alike * (_end_of_lists(content, at, order, it) - at)
+        for _ in range(it.many - alike):
             at = _end_of_lists(content, at, order, it)
             if at > len(content):
                 break
@@ -137,12 +140,38 @@ def _check_end(content, at, order, elements):
         raise Unusable(f"its data has {more} than are announced")
 
 
+def _many_alike(content, at, order, element):
+    """How many records, the first and those right behind it, have lists as long as the first has: of
+    a mesh of triangles all."""
+    size = _end_of_lists(content, at, order, element) - at
+    many = min(element.many, (len(content) - at) // size)
+    if not many:
+        return 0
+    records = np.frombuffer(content, np.uint8, many * size, at).reshape(many, size)
+    are_alike = np.ones(many, bool)
+    for place, width in _numbers_of_lists(content, at, order, element):
+        numbers = records[:, place - at : place - at + width]
+        are_alike &= (numbers == numbers[0]).all(axis=1)
+    return many if are_alike.all() else int(are_alike.argmin())
+
+
+def _numbers_of_lists(content, at, order, element):
+    """Where the record at a place has the numbers of values of its lists, and their widths."""
+    for kind in element.types:
+        width = np.dtype(kind[0]).itemsize
+        if len(kind) > 1:
+            yield at, width
+            number = int.from_bytes(content[at : at + width], BYTE_ORDERS[order])
+            at += number * np.dtype(kind[1]).itemsize
+        at += width
+
+
 def _end_of_lists(content, at, order, element):
     """Where a record ends that has lists, each of which begins with the number of its values."""
     for kind in element.types:
         size = np.dtype(kind[0]).itemsize
         if len(kind) > 1:
-            number = int.from_bytes(content[at : at + size], "big" if order == ">" else "little")
+            number = int.from_bytes(content[at : at + size], BYTE_ORDERS[order])
             at += number * np.dtype(kind[1]).itemsize
         at += size
     return at
