@@ -1,7 +1,9 @@
 #!/bin/sh
 # Counts the instructions of commands at voxels of 5 cm, on the map of 5 scans of 500 points (edits:
 # on an empty one), and fails where a limit is exceeded: those of an edit, a query, a block that a
-# list looks at, a cast, and a byte of a file and of a snapshot. Needs python3 and valgrind.
+# list looks at, a cast, and a byte of a file and of a snapshot. Instructions don't show what the
+# system takes for the replies, so the time of a session's edits stands beside that of a build, which
+# writes no reply. Needs python3 and valgrind.
 
 set -eu
 
@@ -45,6 +47,23 @@ after_scans() {
 : >"$folder/nothing"
 python3 "$here/make_commands.py" edits >"$folder/edits"
 measure edits "$(count nothing)" "$(count edits)" 100000 1740
+# The processor's milliseconds, the system's among them, of the edits by this task: the least of
+# seven runs.
+milliseconds() {
+    python3 - "$folder/edits" "$program" "$1" 0.05 <<'PYTHON'
+import os, subprocess, sys
+def took():
+    with open(sys.argv[1], "rb") as script:
+        ran = subprocess.Popen(sys.argv[2:], stdin=script, stdout=subprocess.DEVNULL)
+    used = os.wait4(ran.pid, 0)[2]
+    return used.ru_utime + used.ru_stime
+print(round(1000 * min(took() for _ in range(7))))
+PYTHON
+}
+session=$(milliseconds session)
+build=$(milliseconds build)
+echo "edits in a file: $session ms in a session, $build in a build (at most as many)"
+[ "$session" -le "$build" ] || failed=1
 scans=$(count scans)
 after_scans gets
 measure gets "$scans" "$(count gets)" 20000 1280
