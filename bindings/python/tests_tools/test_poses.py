@@ -7,7 +7,9 @@ from running import DATA, InFolder, octofix
 
 from octofix.tools import poses
 from octofix.tools.ordering import in_order
-from octofix.tools.trajectory import between, time_of_name
+from octofix.tools.errors import Unusable
+from octofix.tools.stamps import times_of
+from octofix.tools.trajectory import between
 
 
 class InTurn(InFolder):
@@ -264,7 +266,8 @@ class ByTime(InFolder):
         ran = self.done(*words, "--tolerance", "0.1", "--script", "-", status=3)
         first = "scan 0 0 0 1 0 0 0 all\np 1 0 0\nend\n"
         self.assertEqual(ran.output.decode(), first + "scan 2 0 0 1 0 0 0 all\np 0 1 0\nend\n")
-        self.assertIn("gap: scan_7.5.xyz: no pose is near enough in time (--tolerance)", ran.said)
+        said = "gap: scan_7.5.xyz: no pose is near enough to its time 7.5, the nearest one is of 1.2 "
+        self.assertIn(f"{said}(--tolerance)\n", ran.said)
         self.assertIn("1 gaps without a pose", ran.said)
 
     def test_two_poses_at_one_time(self):
@@ -305,9 +308,68 @@ class ByTime(InFolder):
         self.assertEqual(script.count("scan "), 2)
 
     def test_names(self):
-        names = ("a/1.5", "scan_000012", "x1-1305031102.1753")
-        found = [time_of_name(f"{it}.pcd.gz") for it in names]
-        self.assertEqual(found, [1.5, 12, 1305031102.1753])
+        names = ("a/1.5", "scan_000012", "x1-1305031102.1753", "0.50_cam1")
+        for name, time in zip(names, (1.5, 12, 1305031102.1753, 0.5)):
+            self.assertEqual(times_of([f"{name}.pcd.gz"]), {f"{name}.pcd.gz": time})
+        self.assertEqual(times_of(["corner.xyz", "-"]), {})
+
+    def test_the_number_that_differs(self):
+        """Between the names of a kind; with a number of the cloud beside it the stamp."""
+        for alike, times in (
+            (["0.50_cam1", "0.60_cam1", "0.70_cam1"], [0.5, 0.6, 0.7]),
+            (["lidar2_7_v1", "lidar2_8_v1"], [7, 8]),
+            (["1_1305031102.25", "2_1305031102.5"], [1305031102.25, 1305031102.5]),
+            (["1_1305031102", "2_1305031103"], [1305031102, 1305031103]),
+            (["1305031102250_1", "1305031102500_2"], [1305031102.25, 1305031102.5]),
+            (["1_1305031102250000", "2_1305031102500000"], [1305031102.25, 1305031102.5]),
+            (["1305031102500000000_1", "1305031103000000000_2"], [1305031102.5, 1305031103]),
+            (["a_5", "b1_6.5"], [5, 6.5]),
+        ):  # fmt: skip
+            names = [f"clouds/{it}.npy" for it in alike]
+            self.assertEqual(times_of(names), dict(zip(names, times)))
+
+    def test_names_that_are_not_clear(self):
+        for alike, shown in (
+            (["1_2", "2_3"], "1 or 2"),
+            (["1_cam1"], "1 or 1"),
+            (["0.5_1.5", "0.6_1.7"], "0.5 or 1.5"),
+            # (seconds and nanoseconds, or a stamp and a number)
+            (["1305031102_175304000", "1305031103_175304001"], "1305031102 or 175304000"),
+        ):
+            said = f"^{alike[0]}.npy: which number is its time isn't clear: {shown} "
+            with self.assertRaisesRegex(Unusable, said + r"\(--times FILE gives times\)$"):
+                times_of([f"{it}.npy" for it in alike])
+
+    def test_two_clouds_of_one_time(self):
+        said = r"^b/1.0.npy: its time, 1, is that of a/01.npy too \(--times FILE gives times\)$"
+        with self.assertRaisesRegex(Unusable, said):
+            times_of(["a/01.npy", "a/2.npy", "b/1.0.npy"])
+        for time in (1, 2):
+            with open(f"{time}_cam1.xyz", "w") as file:
+                file.write("1 0 0\n")
+        with open("times.txt", "w") as file:
+            file.write("1\n# \n1.0\n")
+        words = ["map", "--res", 1, "1_cam1.xyz", "2_cam1.xyz", "--poses", "poses.tum", "-o", "a"]
+        said = "times.txt:3: the time is that of line 1 too"
+        self.refused(said, *words, "--times", "times.txt")
+
+    def test_nodes_have_no_times(self):
+        """What a scan log counts is no time, nor is a number of its name the time of all."""
+        with open("7.log", "w") as file:
+            file.write("NODE 0 0 0 0 0 0\n1 0 0\n" * 2)
+        words = ["map", "--res", 1, "7.log", "--poses", "poses.tum", "--by-time", "-o", "a.bt"]
+        said = "7.log node 1: its name has no time (--times FILE gives times)"
+        self.refused(said, *words)
+
+    def test_milliseconds(self):
+        """Times of names and of poses have one unit, by their digits."""
+        with open("poses.tum", "w") as file:
+            file.write("1305031102250 0 0 0 0 0 0 1\n1305031102.5 2 0 0 0 0 0 1\n")
+        for time in ("1305031102.25", "1305031102500"):
+            os.rename(self.clouds.pop(), f"cam1_{time}.xyz")
+        script = self.script("--poses", "poses.tum", "--by-time", "cam1_1305031102.25.xyz",
+                             "cam1_1305031102500.xyz")  # fmt: skip
+        self.assertEqual([it[:8] for it in script.splitlines()[::3]], ["scan 0 0", "scan 2 0"])
 
 
 class Turns(InFolder):

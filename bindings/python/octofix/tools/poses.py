@@ -8,12 +8,12 @@ import numpy as np
 
 from .errors import Unusable
 from .kinds import tell_cut, text_of
+from .stamps import NANOSECONDS, seconds
 
 # Forms of poses: 'time x y z qx qy qz qw' of the TUM benchmarks, the 12 numbers of a 3 x 4 matrix
 # of KITTI, and 'time x y z qw qx qy qz ..' of EuRoC, whose ground truth has 17 columns.
 FORMS = ("tum", "kitti", "euroc")
 TUM_WORDS, KITTI_WORDS, EUROC_WORDS = 8, 12, 17
-NANOSECONDS = 1e17
 FARTHEST = 1e7
 
 
@@ -117,11 +117,6 @@ def of_matrix(turn):
     d, e, f = m[1, 0] + m[0, 1], m[0, 2] + m[2, 0], m[2, 1] + m[1, 2]
     rows = ((squares[0], a, b, c), (a, squares[1], d, e), (b, d, squares[2], f))
     return np.array((*rows, (c, e, f, squares[3]))[int(squares.argmax())])
-
-
-def seconds(time):
-    """A time of a file or a name in seconds: one of 10^17 or more is in nanoseconds."""
-    return time / 1e9 if time >= NANOSECONDS else time
 
 
 def read_poses(name, skips, form=None):

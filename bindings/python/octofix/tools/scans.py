@@ -134,7 +134,7 @@ class Scans:
             self.skips.judge(why.named(cloud.name))
             return None
         self.gaps += 1
-        say(f"gap: {cloud.name}: {cloud.gap or 'no pose is near enough in time (--tolerance)'}")
+        say(f"gap: {cloud.name}: {cloud.gap or self.trajectory.gap(number, cloud)}")
         return None
 
     def _say_once(self, note, name):

@@ -88,5 +88,7 @@ def _trajectory(options, nearness, skips):
     if not (is_by_time or options.interpolate):
         is_sure = options.order == "given"
         return InTurn(options.poses, skips, options.pose_format, is_sure=is_sure)
-    chosen = {"times": options.times, "form": options.pose_format}
+    # (a bag has times of its own)
+    named = [it for it in options.clouds if not is_bag(it, options.format)]
+    chosen = {"clouds": named, "times": options.times, "form": options.pose_format}
     return ByTime(options.poses, skips, nearness, **chosen)

@@ -1,15 +1,14 @@
 """The pose of each cloud: the same for all, one for each in turn, or by its time."""
 
 import math
-import os
-import re
 from dataclasses import dataclass
 
 import numpy as np
 
 from .errors import Unusable
 from .kinds import tell_cut, text_of
-from .poses import Pose, numbers_of, read_poses, seconds
+from .poses import Pose, numbers_of, read_poses
+from .stamps import TIMES, seconds, shown, times_of
 
 
 # How far a time may be from a pose, in seconds.
@@ -93,6 +92,14 @@ class Track:
             return None
         return self.poses[min(near, key=lambda it: abs(self.stamps[it] - time))]
 
+    def gap(self, time):
+        """Why there is no pose at a time."""
+        if not len(self.stamps):
+            return "there is no pose"
+        nearest = self.stamps[np.abs(self.stamps - time).argmin()]
+        said = f"no pose is near enough to its time {shown(time)}"
+        return f"{said}, the nearest one is of {shown(nearest)} (--tolerance)"
+
     def _exact(self, time, near):
         return next((self.poses[it] for it in near if self.stamps[it] == time), None)
 
@@ -105,14 +112,16 @@ class Track:
 class ByTime:
     """The pose of the time of a cloud."""
 
-    def __init__(self, name, skips, nearness, *, times=None, form=None):
-        """times: the name of a file of the times of the clouds in turn; else their names say."""
+    def __init__(self, name, skips, nearness, *, clouds=(), times=None, form=None):
+        """clouds: the names of files, which say when each was taken; times: the name of a file
+        that says it of the clouds in turn."""
         found = read_poses(name, skips, form)
         if any(time is None for time, pose in found if pose is not None):
             raise Unusable("its poses have no times, which --by-time takes", name)
         found = _one_each(found, name, skips)
         self.track, self.times_name = Track(found, nearness), times
         self.times = None if times is None else read_times(times)
+        self.named = times_of(clouds) if times is None else {}
 
     def check(self, clouds):
         if self.times is not None and len(self.times) != clouds:
@@ -121,12 +130,23 @@ class ByTime:
 
     def pose_of(self, number, cloud):
         """The pose, or None where none is near enough."""
+        return self.track.at(self._time_of(number, cloud))
+
+    def gap(self, number, cloud):
+        """Why there is no pose."""
+        return self.track.gap(self._time_of(number, cloud))
+
+    def _time_of(self, number, cloud):
         if self.times is not None:
             if number >= len(self.times):
                 why = f"it has no time for cloud {number + 1}, {cloud.name}"
                 raise Unusable(why, self.times_name)
-            return self.track.at(self.times[number])
-        return self.track.at(time_of_name(cloud.name) if cloud.time is None else cloud.time)
+            return self.times[number]
+        if cloud.time is not None:
+            return cloud.time
+        if cloud.name not in self.named:
+            raise Unusable(f"its name has no time ({TIMES})", cloud.name)
+        return self.named[cloud.name]
 
 
 def _one_each(poses, name, skips):
@@ -154,28 +174,29 @@ def between(first, second, part):
     return Pose.of((1 - part) * first.at + part * second.at, turned)
 
 
-def time_of_name(name):
-    """The time in seconds that the name of a file is, as scan_1305031102.1753.pcd."""
-    base = re.sub(r"(\.[A-Za-z]+)+$", "", os.path.basename(name))
-    found = re.search(r"[0-9]+(\.[0-9]+)?$", base)
-    if found is None:
-        raise Unusable("its name has no time (--times FILE gives times)", name)
-    return seconds(float(found[0]))
-
-
 def read_times(name):
-    """The first number of each line that isn't a comment, in seconds."""
-    found, text = [], text_of(name)
+    """The first number of each line that isn't a comment, in seconds, none of them twice."""
+    found, text = {}, text_of(name)
     for line, row in enumerate(text.split("\n"), 1):
         words = row.split()[:1]
         if words and not words[0].startswith("#"):
             try:
-                (time,) = numbers_of(words, row)
-                if not math.isfinite(time):
-                    raise Unusable("the time isn't finite")
+                _note_time(_time_in(words, row), line, found)
             except Unusable as why:
                 why.name, why.line = name, line
                 raise
-            found.append(seconds(time))
     tell_cut(name, text)
-    return found
+    return list(found)
+
+
+def _time_in(words, row):
+    (time,) = numbers_of(words, row)
+    if not math.isfinite(time):
+        raise Unusable("the time isn't finite")
+    return seconds(time)
+
+
+def _note_time(time, line, found):
+    first = found.setdefault(time, line)
+    if first != line:
+        raise Unusable(f"the time is that of line {first} too")
