@@ -79,7 +79,7 @@ def large_clouds():
     points = (np.random.default_rng(2).normal(size=(MANY, 3)) * 10).astype(np.float32)
     np.save("large.npy", points)
     np.savetxt("large.xyz", points, "%.4f")
-    np.concatenate([points, points[:, :1]], axis=1).tofile("large.bin")
+    np.concatenate([points, np.abs(points[:, :1])], axis=1).tofile("large.bin")
     fields = f"FIELDS x y z\nSIZE 4 4 4\nTYPE F F F\nCOUNT 1 1 1\nPOINTS {MANY}\n"
     head = f"VERSION 0.7\n{fields}DATA binary\n"
     Path("large.pcd").write_bytes(head.encode() + points.tobytes())

@@ -36,7 +36,9 @@ def samples(has_bags):
     files = sorted(it for it in DATA.iterdir() if it.suffix in endings[: 6 + has_bags])
     found = [_cloud(it.suffix, it.read_bytes()) for it in files if it.stat().st_size < 1 << 16]
     found += [_cloud(".npy", _npy(it)) for it in (POINTS, POINTS.astype("<f4"), _records())]
-    found += [_cloud(it, np.ones((5, 4), "<f4").tobytes()) for it in (".bin", ".pcd.bin")]
+    found.append(_cloud(".bin", np.ones((6, 4), "<f4").tobytes()))
+    found.append(_cloud(".pcd.bin", np.ones((6, 5), "<f4").tobytes()))
+    found.append(_cloud(".bin", np.ones((5, 4), "<f8").tobytes(), "--columns-of-bin", "4d"))
     found.append(_cloud(".xyz.gz", gzip.compress(b"1 2 3\n4 5 6\n")))
     if has_bags:
         bag, poses = (DATA / "small.bag").read_bytes(), ("--pose-topic", "/odom")

@@ -135,11 +135,16 @@ class Arrays(InFolder):
         self.assertEqual(self.script("000000.bin"), CORNER_32)
 
     def test_nuscenes(self):
-        """Records of five numbers, which by their length may be those of KITTI."""
+        """Records of five numbers, of which the length or the numbers tell that they aren't
+        KITTI's of four: where the second point is the last of POINTS, its -0.4 is among the fourth
+        ones of each four."""
         rows = np.concatenate([POINTS, np.ones((7, 2))], axis=1).astype("<f4")
-        np.concatenate([rows, rows[:1]]).tofile("scan.pcd.bin")
-        wanted = CORNER_32.replace("end\n", "p 2 -0.5 0\nend\n")
-        self.assertEqual(self.script("scan.pcd.bin"), wanted)
+        rows.tofile("scan.bin")
+        self.assertEqual(self.script("scan.bin"), CORNER_32)
+        rows[[0, 6, 1, 2, 3, 4, 5, 0]].tofile("scan.pcd.bin")
+        head, *points, end = CORNER_32.splitlines()
+        wanted = [head, *(points[it] for it in (0, 6, 1, 2, 3, 4, 5, 0)), end]
+        self.assertEqual(self.script("scan.pcd.bin").splitlines(), wanted)
 
     def test_big_endian_ply(self):
         """With faces before the vertices, and a property between the coordinates."""

@@ -164,7 +164,7 @@ class Files(InFolder):
         with open("a.bin", "wb") as file:
             file.write(bytes(17))
         said = "a.bin: its 17 bytes are no whole number of records of 16 bytes"
-        self.refused(said, "map", "--res", 1, "a.bin", "-o", "a.bt")
+        self.refused(said, "map", "--res", 1, "a.bin", "--format", "kitti", "-o", "a.bt")
         content = (DATA / "two_nodes.graph").read_bytes()
         with open("a.graph", "wb") as file:
             file.write(content[:200])
@@ -292,6 +292,8 @@ class Words(InFolder):
             ("--region", "1/x", "'x' is no whole number"),
             ("--turn", "kitti", "camera, or four numbers as 0.5,-0.5,0.5,-0.5"),
             ("--turn", "1,2,3,w", "'w' is no number"),
+            ("--columns-of-bin", "6x", "'6x' is no number of columns, as 6, 6f or 6d"),
+            ("--columns-of-bin", "2", "'2' is no number of columns, as 6, 6f or 6d"),
         ):
             ran = self.done("map", "--res", 1, "-", "-o", "c.bt", option, word, status=2)
             self.assertTrue(ran.said.endswith(f"argument {option}: {said}\n"), ran.said)
@@ -335,6 +337,8 @@ class Words(InFolder):
              "--topic", "/points"),
             ("--frame is for ROS bags, and no cloud is one", "map", "--res", 1, "a.bt", "-o", "c",
              "--frame", "map"),
+            ("--columns-of-bin is for .bin files (--format bin), and no cloud is one", "map",
+             "--res", 1, "a.bt", "-o", "c", "--columns-of-bin", 5),
             ("--pose-topic and --frame exclude each other", "map", "--res", 1, "-", "-o", "c",
              "--format", "bag", "--pose-topic", "/odom", "--frame", "map"),
             ("--tolerance needs --by-time, --times, --interpolate, --pose-topic or --frame", "map",

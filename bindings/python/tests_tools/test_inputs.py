@@ -141,6 +141,71 @@ class Columns(Inputs):
         self.assertEqual(self.script(*words).count("scan "), 3)
 
 
+class Records(Inputs):
+    """What a .bin has is read where its length and its numbers can be of one kind alone."""
+
+    ASK = ": --columns-of-bin N says how many columns it has, as 6, or 6d of doubles"
+    ROWS = np.array([[-1, 2, 3, 0.5], [1, -2, -3, 255]], "<f4")
+
+    def bytes_of(self, rows):
+        return np.asarray(rows, "<f4").tobytes()
+
+    def test_of_both_kinds(self):
+        """Five points of 1, 1, 1, 1, or four of five ones."""
+        said = ": its records may be KITTI's of 4 numbers or nuScenes' of 5"
+        for name in ("a.bin", "a.pcd.bin", "a.BIN.gz"):
+            self.is_refused(said + self.ASK, self.bytes_of(np.ones((5, 4))), name=name)
+        self.write("a.bin", self.bytes_of(np.ones((5, 4))))
+        kinds = (["--format", "kitti"], 5), (["--format", "nuscenes"], 4)
+        columns = (["--columns-of-bin", 10], 2), (["--columns-of-bin", "5d"], 2)
+        for words, many in (*kinds, *columns):
+            self.assertEqual(self.script("a.bin", *words).count("\np "), many, words)
+
+    def test_of_neither_kind(self):
+        """By the length; or by an intensity, a number that isn't finite, and one far away."""
+        said = ": its 24 bytes are no whole number of records of 16 or 20 bytes"
+        self.is_refused(said + self.ASK, self.bytes_of(np.ones(6)), name="a.bin")
+        said = ": its numbers can't be KITTI's or nuScenes' (x, y, z, an intensity up to 255, ..)"
+        self.write("good.bin", self.ROWS.tobytes())
+        self.assertIn("p -1 2 3\np 1 -2 -3\n", self.script("good.bin"))
+        for column, bad in ((3, -0.1), (3, 255.5), (0, np.nan), (3, np.nan), (1, np.inf), (2, 1e7)):
+            rows = self.ROWS.copy()
+            rows[1, column] = bad
+            self.is_refused(said + self.ASK, rows.tobytes(), name="a.bin")
+
+    def test_other_columns(self):
+        """Six numbers, as of a lidar with rings and times, and doubles. By fours the six would be
+        KITTI's but for the -5 in the place of an intensity."""
+        rows = np.array([[1, 2, 3, 0.5, 7, -0.1], [4, -5, 6, 1, 8, 0]])
+        said = ": its numbers can't be KITTI's or nuScenes' (x, y, z, an intensity up to 255, ..)"
+        self.is_refused(said + self.ASK, self.bytes_of(rows), name="a.bin")
+        words = ["--format", "bin", "--columns-of-bin"]
+        for kind, word in (("<f4", "6"), ("<f4", "6f"), ("<f8", "6d")):
+            content = rows.astype(kind).tobytes()
+            self.assertEqual(self.points(content, *words, word), ["1 2 3", "4 -5 6"])
+            came = self.points(content, *words, word, "--columns", "3,2,1")
+            self.assertEqual(came, ["3 2 1", "6 -5 4"])
+        self.is_refused(": there is no column 7: a record has 6", content, *words, "6d",
+                        "--columns", "1,2,7")  # fmt: skip
+        said = ": its 96 bytes are no whole number of records of 56 bytes"
+        self.is_refused(said, content, *words, "7d")
+        self.write("a.bin", content)
+        (cloud,) = clouds.read("a.bin", columns_of_bin="6d")
+        self.assertEqual(cloud.points.tolist(), [[1, 2, 3], [4, -5, 6]])
+        self.write("a.bin", self.bytes_of(rows))
+        (cloud,) = clouds.read("a.bin", columns_of_bin=6)
+        self.assertEqual(cloud.points.tolist(), [[1, 2, 3], [4, -5, 6]])
+        with self.assertRaises(ValueError):
+            clouds.read("a.bin", columns_of_bin="6g")
+
+    def test_mostly_far(self):
+        """Points of which more than half are too far away are those of other columns."""
+        rows = np.array([[1, 2, 3], [1e9, 0, 0], [0, -1e8, 0]])
+        said = ": 2 of its 3 points are 10,000 km away or more, so that it may have other columns"
+        self.is_refused(f"{said} (--columns)", npy(rows))
+        self.assertEqual(self.points(npy(rows[:2])), ["1 2 3"])
+
+
 class Counts(Inputs):
     """Data and what its header announces have to agree."""
 
@@ -295,7 +360,7 @@ class Kinds(Inputs):
         self.is_refused(": it is empty", gzip.compress(b""), name="a.xyz.gz")
         if importlib.util.find_spec("rosbag") is not None:
             self.is_refused(": it is empty", b"", name="a.bag")
-        for form in ("text", "pcd", "ply", "npy", "kitti", "log", "graph", "las"):
+        for form in ("text", "pcd", "ply", "npy", "bin", "kitti", "log", "graph", "las"):
             self.is_refused(": it is empty", b"", "--format", form)
         self.write("empty", b"")
         for words in (["--poses", "empty"], ["--poses", DATA / "poses.tum", "--times", "empty"]):

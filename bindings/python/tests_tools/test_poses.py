@@ -266,8 +266,8 @@ class ByTime(InFolder):
         ran = self.done(*words, "--tolerance", "0.1", "--script", "-", status=3)
         first = "scan 0 0 0 1 0 0 0 all\np 1 0 0\nend\n"
         self.assertEqual(ran.output.decode(), first + "scan 2 0 0 1 0 0 0 all\np 0 1 0\nend\n")
-        said = "gap: scan_7.5.xyz: no pose is near enough to its time 7.5, the nearest one is of 1.2 "
-        self.assertIn(f"{said}(--tolerance)\n", ran.said)
+        said = "no pose is near enough to its time 7.5, the nearest one is of 1.2 (--tolerance)"
+        self.assertIn(f"gap: scan_7.5.xyz: {said}\n", ran.said)
         self.assertIn("1 gaps without a pose", ran.said)
 
     def test_two_poses_at_one_time(self):

@@ -3,6 +3,7 @@
 import argparse
 
 from .clouds.reading import FORMS
+from .clouds.records import records_of
 from .errors import Unusable
 from .poses import CAMERA, Pose
 from .poses import FORMS as FORMS_OF_POSES
@@ -108,6 +109,11 @@ def columns(word):
     return found
 
 
+def records(word):
+    """The Records of a number of columns, and f or d for four or eight bytes each."""
+    return _read(records_of, word, "number of columns, as 6, 6f or 6d")
+
+
 def turn(word):
     """The Pose of axes: those of a camera, or turned by a quaternion."""
     if word == "camera":
@@ -132,6 +138,10 @@ def add_scans(parser):
     form.add_argument(
         "--columns", type=columns, metavar="X,Y,Z",
         help="which columns are x, y and z: names or numbers (from 1)",
+    )  # fmt: skip
+    form.add_argument(
+        "--columns-of-bin", type=records, metavar="N[f|d]",
+        help="how many columns a .bin has, of four bytes each (f) or eight (d)",
     )  # fmt: skip
     form.add_argument(
         "--every", type=whole(1, 10**9), default=1, metavar="N", help="each Nth point"

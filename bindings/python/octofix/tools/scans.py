@@ -172,6 +172,9 @@ class Scans:
         endless, far = self.left.endless - endless, self.left.far - far
         if far and endless + far == len(points):
             raise Unusable(f"none of its {len(points)} points is finite and below 10,000 km away")
+        if 2 * far > len(points):
+            said = f"{far} of its {len(points)} points are 10,000 km away or more"
+            raise Unusable(f"{said}, so that it may have other columns (--columns)")
         if self.choice.voxel:
             beams = _one_a_voxel(beams, origin, nanometres(self.choice.voxel))
             self.left.chosen += count - len(beams)

@@ -5,7 +5,7 @@ import os
 
 from .clouds import Reading
 from .clouds.bags import Topics
-from .clouds.reading import is_bag
+from .clouds.reading import is_bag, is_bin
 from .errors import Unusable
 from .ordering import in_order
 from .poses import IDENTITY, Pose
@@ -26,7 +26,9 @@ def scans_of(options):
     nearness = Nearness(options.tolerance or TOLERANCE, options.interpolate)
     topics = Topics(options.topic, options.pose_topic, options.frame, nearness)
     allows_empty = getattr(options, "allow_empty", False)
-    reading = Reading(options.format, options.columns, topics, allows_empty)
+    reading = Reading(
+        options.format, options.columns, topics, allows_empty, options.columns_of_bin
+    )
     choice = Choice(options.every, options.min_range, options.voxel)
     frames, trajectory = _frames(options), _trajectory(options, nearness, skips)
     scans = Scans(
@@ -55,6 +57,9 @@ def _expect_use(options):
     asked = [f"--{it.replace('_', '-')}" for it in OF_BAGS if getattr(options, it) is not None]
     if asked and not any(is_bag(it, options.format) for it in options.clouds):
         raise Unusable(f"{asked[0]} is for ROS bags, and no cloud is one")
+    is_raw = options.format == "bin" or any(map(is_bin, options.clouds))
+    if options.columns_of_bin and (options.format not in (None, "bin") or not is_raw):
+        raise Unusable("--columns-of-bin is for .bin files (--format bin), and no cloud is one")
     if options.pose_topic is not None and options.frame is not None:
         raise Unusable("--pose-topic and --frame exclude each other")
     if options.tolerance is not None and not any(getattr(options, it) for it in BY_TIME):

@@ -1,4 +1,4 @@
-"""Arrays in files: NumPy's .npy, and the .bin of KITTI and nuScenes."""
+"""Arrays in files: NumPy's .npy."""
 
 import io
 import math
@@ -8,7 +8,7 @@ import numpy as np
 
 from ..errors import Unusable, failing_as
 from .cloud import Cloud, only, xyz_of
-from .columns import AXES, places_of
+from .columns import places_of
 
 # Columns that are rather points of an array whose rows are x, y and z.
 MANY = 16
@@ -83,21 +83,3 @@ def _of_records(array, asked):
     if bad := [it for it in chosen if array.dtype[it].kind not in "fiu"]:
         raise Unusable(f"its field {bad[0]} is {array.dtype[bad[0]]}, and no number")
     return xyz_of(array, chosen)
-
-
-def read_kitti(name, content, reading):
-    """One cloud of records x, y, z, intensity, each of four bytes, the lowest first."""
-    return _read_floats(name, content, reading, (*AXES, "intensity"))
-
-
-def read_nuscenes(name, content, reading):
-    """One cloud of records x, y, z, intensity, ring, as those of KITTI."""
-    return _read_floats(name, content, reading, (*AXES, "intensity", "ring"))
-
-
-def _read_floats(name, content, reading, names):
-    width, many = len(names), len(content)
-    if many % (4 * width):
-        raise Unusable(f"its {many} bytes are no whole number of records of {4 * width} bytes")
-    columns = places_of(names, width, reading.columns, "a record")
-    return only(Cloud(name, np.frombuffer(content, "<f4").reshape(-1, width)[:, columns]))

@@ -8,15 +8,17 @@ from dataclasses import dataclass, field
 from ..errors import Unusable, failing_as
 from ..files import read_bytes
 from ..kinds import LAS, ROS_BAG, refuse_empty, refuse_unread
-from . import arrays, bags, graph, las, nodes, pcd, ply, text
+from . import arrays, bags, graph, las, nodes, pcd, ply, records, text
+from .records import Records
 
 READERS = {
     "pcd": pcd.read,
     "ply": ply.read,
     "text": text.read,
     "npy": arrays.read_npy,
-    "kitti": arrays.read_kitti,
-    "nuscenes": arrays.read_nuscenes,
+    "bin": records.read,
+    "kitti": records.read_kitti,
+    "nuscenes": records.read_nuscenes,
     "las": las.read,
     "log": nodes.read,
     "graph": graph.read,
@@ -32,9 +34,9 @@ SIGNS = [
     # (each blank and each comment can be taken in one way alone, else this takes for ever)
     (rb"\s*(#[^\n]*\n\s*)*(?<![^\S\n])NODE\s", "log"),
 ]
+BIN = r"\.bin(\.gz)?$"
 ENDINGS = [
-    (r"\.pcd\.bin(\.gz)?$", "nuscenes"),
-    (r"\.bin(\.gz)?$", "kitti"),
+    (BIN, "bin"),
     (r"\.graph(\.gz)?$", "graph"),
     (r"\.bag$", "bag"),
 ]
@@ -44,12 +46,14 @@ ENDINGS = [
 class Reading:
     """How files are read: a form of FORMS or None for what the file itself shows, and the columns
     of x, y and z as --columns has them, or None; topic and the like are for bags; whether a file of
-    no byte is a cloud of no point. What was read for later is kept by the names of files."""
+    no byte is a cloud of no point; the Records of a .bin, or None. What was read for later is kept
+    by the names of files."""
 
     form: str = None
     columns: list = None
     bag: bags.Topics = bags.Topics()
     allows_empty: bool = False
+    records: Records = None
     kept: dict = field(default_factory=dict, compare=False)
 
 
@@ -58,6 +62,11 @@ def form_of(name, content):
     found = next((form for sign, form in SIGNS if re.match(sign, content[:65536])), None)
     by_name = (form for ending, form in ENDINGS if re.search(ending, name.lower()))
     return found or next(by_name, "text")
+
+
+def is_bin(name):
+    """Whether a file has raw records by its name."""
+    return re.search(BIN, name.lower()) is not None
 
 
 def is_bag(name, form=None):
