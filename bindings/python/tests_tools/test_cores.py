@@ -67,7 +67,7 @@ class Jobs(InFolder):
 
     def test_same_files(self):
         """Whatever the range, also where scans are done in parts, or refused: each one once."""
-        tried = ([], ["--max-cells", 90], ["--voxel", 0.5], ["--range", 2])
+        tried = ([], ["--max-cells", 90], ["--voxel", 0.5], ["--range", 2, "--scale", 1])
         for seed, words in enumerate(tried):
             save_drive(np.random.default_rng(seed))
             status = 0 if "--range" in words else 3

@@ -117,7 +117,7 @@ class Check(InFolder):
     def test_range(self):
         """Cut beams have no end, and a free way."""
         save_map("a.bt", 1, {(0, 0, 0): -9, (1, 0, 0): -9})
-        words = ["--range", 1, "--pose", 0.5, 0.5, 0.5, 1, 0, 0, 0, "-", "--json"]
+        words = ["--range", 1, "--scale", 1, "--pose", 0.5, 0.5, 0.5, 1, 0, 0, 0, "-", "--json"]
         found = json.loads(self.done("check", "a.bt", *words, given=b"9 0 0\n").output)
         self.assertEqual((found["ends"], found["ways_free"]), (0, 1))
         self.assertEqual(found["share_of_ends_occupied"], None)

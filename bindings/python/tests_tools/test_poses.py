@@ -5,6 +5,7 @@ import os
 import numpy as np
 from running import DATA, InFolder, octofix
 
+from octofix import Map
 from octofix.tools import poses
 from octofix.tools.ordering import in_order
 from octofix.tools.errors import Unusable
@@ -417,8 +418,55 @@ class Choices(InFolder):
     def test_voxels_far_apart(self):
         points = b"3000000 0 0\n-3000000 3000000 3000000\n3000000 0 0.0001\n"
         words = ["map", "--res", 100, "-", "--range", 5, "--voxel", "0.001", "--script", "-"]
+        words += ["--scale", 1]
         lines = self.done(*words, given=points).output.splitlines()
         self.assertEqual(lines[1:-1], [b"p 3000000 0 0", b"p -3000000 3000000 3000000"])
 
     def test_range(self):
-        self.assertIn("1 0 0 0 2.5\n", self.script("-", "--range", "2.5", given=b"9 0 0\n"))
+        script = self.script("-", "--range", "2.5", given=b"9 0 0\n2 0 0\n")
+        self.assertIn("1 0 0 0 2.5\n", script)
+
+    def test_scale(self):
+        """Points, and a pose in their file, in millimetres; other poses are in metres."""
+        script = self.script("-", "--scale", "0.001", given=b"NODE 500 0 0 0 0 0\n1500 -20 7\n")
+        self.assertEqual(script, "scan 0.5 0 0 1 0 0 0 all\np 1.5 -0.02 0.007\nend\n")
+        pose = ["--pose", 0.5, 0, 0, 1, 0, 0, 0, "--scale", "0.001"]
+        self.assertEqual(self.script("-", *pose, given=b"1500 -20 7\n"), script)
+
+
+class Unit(InFolder):
+    """Beams that --range cuts are counted, and a cloud of which it cuts all has another unit."""
+
+    WORDS = "map", "--res", "0.1", "--range", 8, "-o", "a.bt"
+
+    def setUp(self):
+        super().setUp()
+        for name, rows in (("mm", "1500 0 0\n0 1500 20\n"), ("m", "1 0 0\n9 0 0\n"),
+                           ("far", "0 9 0\n9 0 0\n")):  # fmt: skip
+            with open(f"{name}.xyz", "w") as file:
+                file.write(rows)
+
+    def test_millimetres(self):
+        said = "all its 2 beams are longer than --range 8 m, as where the unit is another "
+        said = f"mm.xyz: {said}(--scale 0.001 for millimetres, --scale 1 for metres)"
+        for words in ([], ["--jobs", 2], ["--every", 1]):
+            self.refused(said, *self.WORDS, "mm.xyz", *words)
+        self.assertFalse(os.path.exists("a.bt"))
+        self.refused(said, "check", DATA / "five_scans.bt", "--range", 8, "mm.xyz")
+        ran = self.done(*self.WORDS, "mm.xyz", "--scale", "0.001")
+        self.assertIn("; 0 beams cut by --range\n", ran.said)
+        with Map.from_bt("a.bt") as world:
+            self.assertEqual(world.classes([[1.5, 0, 0], [0, 1.5, 0.02]]).tolist(), [2, 2])
+
+    def test_metres(self):
+        """Told by the word, or by a beam of a cloud before that isn't cut."""
+        said_so = (["far.xyz", "--scale", 1], 2)
+        for words, cut in (said_so, (["m.xyz", "far.xyz"], 3), (["m.xyz"], 1)):
+            ran = self.done(*self.WORDS, *words)
+            self.assertIn(f"; {cut} beams cut by --range\n", ran.said)
+        self.assertNotIn("--range", self.done("map", "--res", 1, "m.xyz", "-o", "a.bt").said)
+
+    def test_no_beam(self):
+        """Of no point none is cut."""
+        for rows in (b"nan 0 0\n", b"# x y z\n"):
+            self.done(*self.WORDS, "-", "m.xyz", given=rows)

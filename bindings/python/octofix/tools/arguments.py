@@ -144,6 +144,9 @@ def add_scans(parser):
         help="how many columns a .bin has, of four bytes each (f) or eight (d)",
     )  # fmt: skip
     form.add_argument(
+        "--scale", type=positive, metavar="S", help="metres in a unit of points: 0.001 for mm (1)"
+    )
+    form.add_argument(
         "--every", type=whole(1, 10**9), default=1, metavar="N", help="each Nth point"
     )
     form.add_argument(

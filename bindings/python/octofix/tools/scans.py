@@ -29,11 +29,15 @@ class Scan:
 
 @dataclass(frozen=True)
 class Choice:
-    """Which points are taken: each n-th, those from a distance on, one a voxel of an edge."""
+    """Which points are taken: each n-th, those from a distance on, one a voxel of an edge. How many
+    metres their unit is, or None where they are taken for metres, and where beams will be cut, or
+    None."""
 
     every: int = 1
     nearest: float = 0.0
     voxel: float = None
+    scale: float = None
+    reach: float = None
 
 
 @dataclass(frozen=True)
@@ -49,11 +53,13 @@ class Frames:
 @dataclass
 class Left:
     """How many points were left out: not finite, too far away, and by choice; and how many weren't
-    that lie where the sensor stands, as some drivers have it where nothing was seen."""
+    that lie beyond the range, or where the sensor stands, as some drivers have it where nothing was
+    seen."""
 
     endless: int = 0
     far: int = 0
     chosen: int = 0
+    cut: int = 0
     at_sensor: int = 0
 
     def text(self):
@@ -72,6 +78,8 @@ class Scans:
         self.skips, self.frames, self.choice = skips, frames, choice
         self.left, self.gaps, self.clouds = Left(), 0, 0
         self.said, self.is_quiet = set(), is_quiet
+        # (where one beam isn't cut, the unit of the clouds is right)
+        self.is_unit_sure = choice.scale is not None
 
     def is_one_each(self):
         """Whether each file has one cloud, as far as names tell."""
@@ -150,7 +158,7 @@ class Scans:
             pose = self.trajectory.pose_of(number, cloud)
         elif cloud.pose is not None:
             self._say_once("the pose in the file is used (VIEWPOINT, NODE or the like)", cloud.name)
-            pose = cloud.pose
+            pose = self._pose_in(cloud)
         elif cloud.gap:
             pose = None
         else:
@@ -158,11 +166,17 @@ class Scans:
             pose = IDENTITY
         return pose and pose.along(self.frames.turn).carrying(self.frames.mount)
 
+    def _pose_in(self, cloud):
+        """The pose of a file, which is in its unit. (What a bag says of it is in metres.)"""
+        if not self.choice.scale or cloud.time is not None:
+            return cloud.pose
+        return Pose.of(cloud.pose.at * self.choice.scale, cloud.pose.turn)
+
     def _placed(self, cloud, pose):
         """The scan of a cloud, made piece by piece, so that little memory is taken beside it."""
         origin, points, count = nanometres(pose.at), cloud.points[:: self.choice.every], 0
         self.left.chosen += len(cloud.points) - len(points)
-        endless, far = self.left.endless, self.left.far
+        endless, far, cut = self.left.endless, self.left.far, self.left.cut
         beams = np.empty((len(points), 3), np.int64)
         for start in range(0, len(points), PIECE):
             piece = self._beams_of(points[start : start + PIECE], pose, origin)
@@ -175,16 +189,27 @@ class Scans:
         if 2 * far > len(points):
             said = f"{far} of its {len(points)} points are 10,000 km away or more"
             raise Unusable(f"{said}, so that it may have other columns (--columns)")
+        self._expect_unit(count, self.left.cut - cut)
         if self.choice.voxel:
             beams = _one_a_voxel(beams, origin, nanometres(self.choice.voxel))
             self.left.chosen += count - len(beams)
         return Scan(cloud.name, origin, beams)
+
+    def _expect_unit(self, count, cut):
+        """Unusable where all beams of the first clouds would be cut, as those of millimetres."""
+        self.is_unit_sure |= cut < count
+        if count and not self.is_unit_sure:
+            self.left.cut -= cut
+            said = f"all its {count} beams are longer than --range {self.choice.reach:g} m"
+            units = "--scale 0.001 for millimetres, --scale 1 for metres"
+            raise Unusable(f"{said}, as where the unit is another ({units})")
 
     def _beams_of(self, points, pose, origin):
         """Beams in nanometres from the origin, along the axes of the map."""
         # (what has no place among numbers of 64 bits is infinite, and left out)
         with np.errstate(invalid="ignore", over="ignore"):
             points = points.astype(float)
+            points *= self.choice.scale or 1
         is_finite = np.isfinite(points).all(axis=1)
         is_near = (np.abs(points) < FARTHEST / NANO).all(axis=1)
         self.left.endless += len(points) - int(is_finite.sum())
@@ -195,12 +220,19 @@ class Scans:
         is_near = (np.abs(beams) < FARTHEST).all(axis=1)
         self.left.far += len(beams) - int(is_near.sum())
         beams = beams[is_near]
-        if self.choice.nearest > 0:
-            is_chosen = np.linalg.norm(beams / NANO, axis=1) >= self.choice.nearest
-            self.left.chosen += len(beams) - int(is_chosen.sum())
-            beams = beams[is_chosen]
+        if self.choice.nearest > 0 or self.choice.reach is not None:
+            beams = self._chosen(beams)
         self.left.at_sensor += len(beams) - int(beams.any(axis=1).sum())
         return beams
+
+    def _chosen(self, beams):
+        """The beams that aren't too short; those that are too long are counted."""
+        lengths = np.linalg.norm(beams / NANO, axis=1)
+        is_chosen = lengths >= self.choice.nearest
+        self.left.chosen += len(beams) - int(is_chosen.sum())
+        if self.choice.reach is not None:
+            self.left.cut += int((lengths[is_chosen] > self.choice.reach).sum())
+        return beams[is_chosen]
 
 
 def _one_a_voxel(beams, origin, edge):

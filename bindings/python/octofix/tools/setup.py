@@ -29,7 +29,9 @@ def scans_of(options):
     reading = Reading(
         options.format, options.columns, topics, allows_empty, options.columns_of_bin
     )
-    choice = Choice(options.every, options.min_range, options.voxel)
+    choice = Choice(
+        options.every, options.min_range, options.voxel, options.scale, options.range
+    )
     frames, trajectory = _frames(options), _trajectory(options, nearness, skips)
     scans = Scans(
         options.clouds, reading, trajectory, skips,

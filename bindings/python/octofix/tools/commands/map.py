@@ -186,6 +186,8 @@ def _write(mapper, files):
 
 def _closing_line(mapper, scans):
     counted = [f"{mapper.scans} scans of {mapper.points} points, {mapper.rates}"]
+    if scans.choice.reach is not None:
+        counted.append(f"{scans.left.cut} beams cut by --range")
     if mapper.parted:
         counted.append(f"{mapper.parted} of them in parts")
     return "; ".join([*counted, *_left_out(scans)])
