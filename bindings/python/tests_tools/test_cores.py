@@ -35,8 +35,10 @@ FULL = "(--max-groups allows more, a larger --res or a --range takes less)"
 def save_drive(random):
     """Nine clouds, of which one has a point outside the map, and their poses."""
     with open("poses.tum", "w") as poses:
+        poses.write("# time x y z qx qy qz qw\n")
         for number, name in enumerate(CLOUDS):
             place, turn = random.uniform(-3, 3, 3), random.normal(size=4)
+            turn /= np.linalg.norm(turn)
             poses.write(f"{number} {' '.join(map(str, [*place, *turn]))}\n")
             points = random.normal(size=(random.integers(1, 60), 3)) * 3
             np.save(name, points if number != 4 else points + 1e5)

@@ -96,8 +96,10 @@ class Program(InFolder):
     def test_random_turns(self):
         random = np.random.default_rng(7)
         with open("poses.tum", "w") as poses:
+            poses.write("# time x y z qx qy qz qw\n")
             for number in range(20):
                 turn = random.normal(size=4)
+                turn /= np.linalg.norm(turn)
                 at = random.uniform(-3, 3, 3)
                 poses.write(f"{number} {' '.join(map(str, [*at, *turn]))}\n")
                 np.save(f"{number:02}.npy", random.normal(size=(50, 3)) * 4)

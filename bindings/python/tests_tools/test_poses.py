@@ -13,6 +13,10 @@ from octofix.tools.stamps import times_of
 from octofix.tools.trajectory import between
 
 
+HALF = 0.5**0.5
+LEFT = HALF, 0, 0, HALF
+
+
 class InTurn(InFolder):
     def test_tum(self):
         clouds = [DATA / it for it in ("corner.xyz", "corner_binary.ply", "lidar.csv")]
@@ -68,14 +72,14 @@ class InTurn(InFolder):
     def test_sensor(self):
         """A sensor that looks to the left, half a metre before the middle of a robot that is turned
         to the left itself."""
-        turned = ["--pose", 1, 0, 0, 1, 0, 0, 1, "--sensor", 0.5, 0, 0.25, 1, 0, 0, 1]
+        turned = ["--pose", 1, 0, 0, *LEFT, "--sensor", 0.5, 0, 0.25, *LEFT]
         script = self.script("-", *turned, given=b"2 0 0\n")
         self.assertEqual(script, "scan 1 0.5 0.25 1 0 0 0 all\np -2 0 0\nend\n")
 
 
     def test_pitched_sensor(self):
         """A sensor that looks straight down, on a robot that is turned to the left."""
-        turned = ["--pose", 1, 0, 0, 1, 0, 0, 1, "--sensor", 0, 0, 0.25, 1, 0, 1, 0]
+        turned = ["--pose", 1, 0, 0, *LEFT, "--sensor", 0, 0, 0.25, HALF, 0, HALF, 0]
         script = self.script("-", *turned, given=b"2 0 0\n0 3 0\n")
         self.assertEqual(script, "scan 1 0 0.25 1 0 0 0 all\np 0 0 -2\np -3 0 0\nend\n")
 
@@ -117,6 +121,7 @@ class Order(InFolder):
     def test_times_that_fall(self):
         """Poses in turn are in the order of their times, or that is meant."""
         with open("poses", "w") as file:
+            file.write("# time x y z qx qy qz qw\n")
             file.writelines(f"{it} {it} 0 0 0 0 0 1\n" for it in (0, 0, 2, 1))
         words = ["--poses", "poses", "0.npy", "2.npy", "10.npy"]
         said = "poses: poses go to clouds in turn, and pose 4 is earlier than pose 3 "
@@ -209,6 +214,103 @@ class Forms(InFolder):
         said = said.replace("poses:1", "poses:2")
         self.refused(f"{said}'# t x y z a b c d'", *words)
 
+    def test_of_another_length(self):
+        """A quaternion has the length 1, wherever it is read."""
+        long = "the quaternion has the length 1.002, and not 1"
+        words = ["map", "--res", 1, "a.xyz", "-o", "a.bt"]
+        for row in ("0 1 2 3 0 0 0 1.002", "# t x y z qw qx qy qz\n0 1 2 3 0 0 0 1.002",
+                    "# x y z qw qx qy qz\n1 2 3 0 0 0 1.002"):  # fmt: skip
+            with open("poses", "w") as file:
+                file.write(f"{row}\n")
+            line = row.count("\n") + 1
+            self.refused(f"poses:{line}: {long}", *words, "--poses", "poses")
+        self.refused(f"--pose: {long}", *words, "--pose", 1, 2, 3, 0, 0, 0, 1.002)
+        self.refused(f"--sensor: {long}", *words, "--sensor", 1, 2, 3, 0, 0, 0, -1.002)
+        self.assertIn(f"--turn: {long}\n", octofix(*words, "--turn", "0,0,0,1.002").said)
+        pcd = (DATA / "corner.pcd").read_text().replace("1 0 0 0", "1.002 0 0 0")
+        self.refused(f"-:9: {long}", "map", "--res", 1, "-", "-o", "a.bt", given=pcd.encode())
+        self.assertEqual(self.scan("0 1 2 3 0 0 0.7078 0.7078\n"), self.TURNED)
+
+    def test_eight_numbers(self):
+        """Of TUM where nothing speaks against it."""
+        words = ["map", "--res", 1, "--poses", "poses", *["a.xyz"], "-o", "a.bt"]
+        order = "whether qx qy qz qw (--pose-format tum) or qw qx qy qz (--pose-format euroc) "
+        order += "follow time and place isn't said: "
+        time = "whether the time stands first (--pose-format tum) or last isn't said: "
+        fall = "its first numbers don't rise, as times do (--pose-format tum: they are)"
+        for said, *rows in (
+            # (w first, and a turn by a half or by nothing; and both as likely)
+            (f"{order}'0 1 2 3 1 0 0 0'", "0 1 2 3 1 0 0 0"),
+            (f"{order}'0 1 2 3 0.7071 0 0 0.7071'", "0 1 2 3 0.7071 0 0 0.7071"),
+            (f"{order}'0 1 2 3 0 0 0 1'", "0 1 2 3 0 0 0 1", "1 1 2 3 1 0 0 0"),
+            (f"{time}'1 2 3 0 0 0 1 5'", "1 2 3 0 0 0 1 5"),
+            (f"{time}'0 0 0 1 0 0 0 1'", "0 0 0 1 0 0 0 1"),
+            (fall, "2 1 2 3 0 0 0 1", "1 1 2 3 0 0 0 1"),
+        ):  # fmt: skip
+            with open("poses", "w") as file:
+                file.writelines(f"{it}\n" for it in rows)
+            self.refused(f"poses:1: {said}", *words)
+            self.refused(f"poses:1: {said}", *words, "--on-error", "skip")
+            if "last" not in said:
+                ran = octofix(*words, "--pose-format", "tum", "--by-time")
+                self.assertIn("its name has no time", ran.said)
+        # (at a height of 1 m)
+        with open("b.xyz", "w") as file:
+            file.write("2 0 0.5\n")
+        with open("poses", "w") as file:
+            file.write("0 0 0 1 0 0 0 1\n1 0 0 1 0 0 0 1\n")
+        self.assertIn("scan 0 0 1", self.script("--poses", "poses", "a.xyz", "b.xyz"))
+        first = f"0 1 2 3 {self.HALF} 0 0 {self.HALF}\n"
+        self.assertEqual(self.scan(first, "--pose-format", "euroc"), self.TURNED)
+        # (a robot that turns around, and one pose whose numbers are bad)
+        turns = [(np.sin(it / 2), np.cos(it / 2)) for it in np.arange(0, 7, 0.5)]
+        for place in ("0 0 0", "nan 0 0"):
+            rows = [f"{at} {place} 0 0 {s} {c}\n" for at, (s, c) in enumerate(turns)]
+            with open("poses", "w") as file:
+                file.writelines(rows)
+            clouds = [f"{it}.npy" for it in range(len(rows))]
+            for it in clouds:
+                np.save(it, [[1, 0, 0]])
+            status = 0 if place == "0 0 0" else 1
+            self.script("--poses", "poses", *clouds, "--on-error", "skip", status=status)
+
+    def test_seven_numbers(self):
+        """A place and a quaternion, whose order is to be said."""
+        last, first = f"1 2 3 0 0 {self.HALF} {self.HALF}\n", f"1 2 3 {self.HALF} 0 0 {self.HALF}\n"
+        for rows, form, heading in ((last, "xyzw", "# x y z qx qy qz qw\n"),
+                                    (first, "wxyz", "tx,ty,tz,q_w,q_x,q_y,q_z\n")):  # fmt: skip
+            self.assertEqual(self.scan(rows, "--pose-format", form), self.TURNED)
+            self.assertEqual(self.scan(heading + rows), self.TURNED)
+        words = ["map", "--res", 1, "--poses", "poses", "a.xyz", "-o", "a.bt"]
+        said = "whether qx qy qz qw (--pose-format xyzw) or qw qx qy qz (--pose-format wxyz) "
+        said += "follow the place isn't said: "
+        for rows in (last, f"# x y z a b c d\n{last}"):
+            with open("poses", "w") as file:
+                file.write(rows)
+            shown = rows.strip().split("\n")[0]
+            self.refused(f"poses:{rows.count(chr(10))}: {said}{shown!r}", *words)
+
+    def test_matrices(self):
+        """Of four rows, in one line or in four."""
+        rows = ["0 -1 0 1", "1 0 0 2", "0 0 1 3", "0 0 0 1"]
+        for parting in (" ", ",", "\n", "\n\n# next\n"):
+            self.assertEqual(self.scan(parting.join(rows) + "\n"), self.TURNED)
+        two = "\n".join(rows * 2) + "\n"
+        np.save("1.npy", [[2, 0, 0.5]])
+        self.assertEqual(self.scan(two, "1.npy"), self.TURNED * 2)
+        words = ["map", "--res", 1, "--poses", "poses", "a.xyz", "-o", "a.bt"]
+        transposed = "\n".join(["0 1 0 0", "-1 0 0 0", "0 0 1 0", "1 2 3 1"])
+        for text, said in (
+            (transposed, ":1: the last row of the matrix is 0 0 0 1, and not 1 2 3 1"),
+            (two.replace("2", "b"), ":2:7: 'b' is no number"),
+            (two.replace("0 0 1 3", "0 0 1 nan"), ":1: a number of the pose isn't finite"),
+            (two[:-8], ":5: a pose has 16 numbers here (matrix), and not 12"),
+            ("1 2 3 4\n" * 4, ":1: the last row of the matrix is 0 0 0 1, and not 1 2 3 4"),
+        ):  # fmt: skip
+            with open("poses", "w") as file:
+                file.write(text)
+            self.refused(f"poses{said}", *words)
+
     def test_one_form(self):
         """A line of another form is none of this file."""
         with open("poses", "w") as file:
@@ -238,17 +340,40 @@ class Turned(InFolder):
         words = ["--poses", "poses", "--turn", "0.5,-0.5,0.5,-0.5", "a.xyz"]
         self.assertEqual(self.script(*words), wanted)
 
+    def test_which_axes_is_said(self):
+        """Of a matrix of KITTI; with its clouds it has to be asked."""
+        with open("poses", "w") as file:
+            file.write("1 0 0 0 0 1 0 0 0 0 1 0\n")
+        axes = "a camera's (x right, y down, z ahead), as KITTI's own are (--turn camera)"
+        said = "octofix: poses: its poses are taken along the map's axes (x ahead, y to the left, "
+        said += f"z up), and not {axes}\n"
+        words = ["map", "--res", 1, "--poses", "poses", "-o", "a.bt"]
+        self.assertEqual(self.done(*words, "a.xyz").said.count(said), 1)
+        for more in (["--turn", "none"], ["--turn", "camera"], ["--quiet"]):
+            self.assertNotIn("axes", self.done(*words, "a.xyz", *more).said)
+        np.array([[-1, 2, -3, 0.5]], "<f4").tofile("a.bin")
+        said = "poses: whether its poses are along the axes of the map (--turn none) or "
+        self.refused(f"{said}{axes} isn't said", *words, "a.bin")
+        kitti = ["-", "--format", "kitti"]
+        self.refused(f"{said}{axes} isn't said", *words, *kitti, given=bytes(16))
+        script = self.script("--poses", "poses", "a.bin", "--turn", "none")
+        self.assertIn("p -1 2 -3\n", script)
+        self.assertEqual(script, self.script("--poses", "poses", "a.bin", "--turn", "none",
+                                             "--world"))  # fmt: skip
+        script = self.script("--poses", "poses", "a.bin", "--turn", "camera")
+        self.assertIn("p -1 2 -3\n", script)
+
     def test_camera_that_carries_a_lidar(self):
         """The mount is along the map's axes: a quarter of a metre behind the camera."""
         words = ["--turn", "camera", "--sensor", -0.25, 0, 0, 1, 0, 0, 0, "a.xyz"]
-        pose = ["--pose", 0, 0, 1, 1, 0, 1, 0]
+        pose = ["--pose", 0, 0, 1, HALF, 0, HALF, 0]
         script = self.script(*pose, *words)
         self.assertEqual(script, "scan 1 0.25 0 1 0 0 0 all\np 0 -2 0.5\nend\n")
 
     def test_asked_wrongly(self):
         words = ["map", "--res", 1, "a.xyz", "-o", "a.bt", "--turn"]
         self.refused("--turn and --world exclude each other", *words, "camera", "--world")
-        for bad in ("lens", "1,0,0", "0,0,0,0"):
+        for bad in ("lens", "1,0,0", "0,0,0,0", "1,0,0,1"):
             self.assertEqual(octofix(*words, bad).status, 2)
 
 

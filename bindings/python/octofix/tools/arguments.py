@@ -5,8 +5,8 @@ import argparse
 from .clouds.reading import FORMS
 from .clouds.records import records_of
 from .errors import Unusable
-from .poses import CAMERA, Pose
-from .poses import FORMS as FORMS_OF_POSES
+from .posefiles import FORMS as FORMS_OF_POSES
+from .poses import CAMERA, IDENTITY, Pose
 
 
 class Input(str):
@@ -25,6 +25,9 @@ NAMED = {
     ".ot": "an .ot file",
     ".gz": "a file packed by gzip",
 }
+
+
+AXES = {"camera": CAMERA, "none": IDENTITY}
 
 
 def classes_output(word):
@@ -115,15 +118,15 @@ def records(word):
 
 
 def turn(word):
-    """The Pose of axes: those of a camera, or turned by a quaternion."""
-    if word == "camera":
-        return CAMERA
+    """The Pose of axes: those of the map, of a camera, or turned by a quaternion."""
+    if word in AXES:
+        return AXES[word]
     words = word.split(",")
     if len(words) != 4:
-        raise argparse.ArgumentTypeError("camera, or four numbers as 0.5,-0.5,0.5,-0.5")
+        raise argparse.ArgumentTypeError("camera, none, or four numbers as 0.5,-0.5,0.5,-0.5")
     numbers = [_read(float, it, "number") for it in words]
     try:
-        return Pose.of((0, 0, 0), numbers)
+        return Pose.read((0, 0, 0), numbers)
     except Unusable as why:
         raise argparse.ArgumentTypeError(str(why)) from None
 
@@ -171,7 +174,7 @@ def add_scans(parser):
 def _add_poses(group):
     group.add_argument(
         "--poses", type=Input, metavar="FILE",
-        help="a pose a line, for each cloud in turn: TUM, KITTI or EuRoC",
+        help="a pose a line, for each cloud in turn: TUM, KITTI, EuRoC, a matrix",
     )  # fmt: skip
     group.add_argument(
         "--pose-format", choices=[*FORMS_OF_POSES], help="where the file doesn't show it"
@@ -203,8 +206,8 @@ def _add_poses(group):
     )  # fmt: skip
     group.add_argument(
         "--turn", type=turn, metavar="QW,QX,QY,QZ",
-        help="how the axes that poses are in lie in the map, or 'camera' for x right, y down, "
-        "z ahead (KITTI's)",
+        help="how the axes that poses are in lie in the map: 'camera' for x right, y down, z ahead "
+        "(KITTI's), 'none' for the map's own",
     )  # fmt: skip
     group.add_argument(
         "--world", action="store_true", help="points are in the map's frame; poses say from where"

@@ -1,20 +1,15 @@
-"""Where a sensor stood and how it was turned, and lists of that in files."""
+"""Where a sensor stood and how it was turned."""
 
 import math
-import re
 from dataclasses import dataclass
 
 import numpy as np
 
 from .errors import Unusable
-from .kinds import tell_cut, text_of
-from .stamps import NANOSECONDS, seconds
 
-# Forms of poses: 'time x y z qx qy qz qw' of the TUM benchmarks, the 12 numbers of a 3 x 4 matrix
-# of KITTI, and 'time x y z qw qx qy qz ..' of EuRoC, whose ground truth has 17 columns.
-FORMS = ("tum", "kitti", "euroc")
-TUM_WORDS, KITTI_WORDS, EUROC_WORDS = 8, 12, 17
 FARTHEST = 1e7
+# How far the length of a quaternion that is read may be from 1.
+ROUNDING = 1e-3
 
 
 @dataclass(frozen=True)
@@ -37,6 +32,15 @@ class Pose:
             raise Unusable("the quaternion is 0, which is no direction")
         turn = turn / largest
         return Pose(at, turn / np.linalg.norm(turn))
+
+    @staticmethod
+    def read(at, quaternion):
+        """The same of numbers that somebody has written down: a quaternion that isn't of length 1
+        has lost digits, or is none."""
+        pose, length = Pose.of(at, quaternion), math.hypot(*quaternion)
+        if abs(length - 1) > ROUNDING:
+            raise Unusable(f"the quaternion has the length {length:.6g}, and not 1")
+        return pose
 
     def equals(self, other):
         """Whether both are the same place and turn; a quaternion and its negative turn alike."""
@@ -119,29 +123,6 @@ def of_matrix(turn):
     return np.array((*rows, (c, e, f, squares[3]))[int(squares.argmax())])
 
 
-def read_poses(name, skips, form=None):
-    """The list of (time or None, pose or None) of a file, a line each, in a form of FORMS, or in
-    the one that its first pose shows. A pose that can't be used is None where `skips` lets it
-    pass."""
-    found, headings, text = [], [], text_of(name)
-    for line, row in enumerate(text.split("\n"), 1):
-        words = row.replace(",", " ").split()
-        if not words or words[0].startswith("#") or not (found or any(map(is_number, words))):
-            headings.append(row)
-            continue
-        try:
-            form = form or _form_of(words, row, headings)
-            found.append(_pose_of(words, row, form))
-        except Unusable as why:
-            why.name, why.line = name, line
-            skips.judge(why)
-            found.append((None, None))
-    if not found:
-        raise Unusable("it has no pose", name)
-    tell_cut(name, text)
-    return found
-
-
 def numbers_of(words, row):
     """The numbers that words of a line spell; what is none is named with its column."""
     found, start = [], 0
@@ -160,63 +141,3 @@ def is_number(word):
     except ValueError:
         return False
     return word.isascii() and "_" not in word
-
-
-def _form_of(words, row, headings):
-    """The form of the first pose: by how many numbers it has, and by a line that names them."""
-    many = len(words)
-    named = [it for it in headings if len(_names_of(it)) == many >= TUM_WORDS]
-    if many == KITTI_WORDS and not any(_turn_of(it) for it in named):
-        return "kitti"
-    if named:
-        return _form_named(named[-1], many)
-    if many == TUM_WORDS and "," not in row:
-        return "tum"
-    if many == TUM_WORDS:
-        raise _unclear(row)
-    if many == EUROC_WORDS and numbers_of(words[:1], row)[0] >= NANOSECONDS:
-        return "euroc"
-    said = f"{TUM_WORDS} numbers (TUM), {KITTI_WORDS} (KITTI) or {EUROC_WORDS} (EuRoC)"
-    raise Unusable(f"a pose has {said}, and here are {many}")
-
-
-def _form_named(heading, many):
-    place, turn = "".join(it[-1] for it in _names_of(heading)[1:4]), _turn_of(heading)
-    if (place, turn) == ("xyz", "wxyz"):
-        return "euroc"
-    if (place, turn, many) == ("xyz", "xyzw", TUM_WORDS):
-        return "tum"
-    raise _unclear(heading)
-
-
-def _turn_of(heading):
-    """The last letters of the names from the fifth to the eighth that are of a quaternion."""
-    return "".join(it[-1] for it in _names_of(heading)[4:8] if it.startswith("q"))
-
-
-def _unclear(row):
-    said = "whether qx qy qz qw (--pose-format tum) or qw qx qy qz (--pose-format euroc) follow"
-    return Unusable(f"{said} time and place isn't said: {row.strip()[:80]!r}")
-
-
-def _names_of(heading):
-    """The names in a line that may name columns, without units."""
-    plain = re.sub(r"[\[(][^\[\]()]*[\])]", " ", heading).lower().lstrip("# ")
-    return [it for it in re.split(r"[,\s]+", plain) if it]
-
-
-def _pose_of(words, row, form):
-    """The time, or None, and the pose of a line."""
-    numbers = numbers_of(words, row)
-    wanted = {"tum": TUM_WORDS, "kitti": KITTI_WORDS, "euroc": TUM_WORDS}[form]
-    if len(numbers) < wanted or (len(numbers) > wanted and form != "euroc"):
-        raise Unusable(f"a pose has {wanted} numbers here ({form}), and not {len(numbers)}")
-    if form == "kitti":
-        matrix = np.reshape(numbers, (3, 4))
-        if not np.isfinite(matrix).all():
-            raise Unusable("a number of the pose isn't finite")
-        return None, Pose.of(matrix[:, 3], of_matrix(matrix[:, :3]))
-    time, x, y, z, *turn = numbers[:TUM_WORDS]
-    if not math.isfinite(time):
-        raise Unusable("the time isn't finite")
-    return seconds(time), Pose.of((x, y, z), turn if form == "euroc" else (turn[3], *turn[:3]))

@@ -9,6 +9,7 @@ from .clouds.reading import is_bag, is_bin
 from .errors import Unusable
 from .ordering import in_order
 from .poses import IDENTITY, Pose
+from .progress import say
 from .scans import Choice, Frames, Scans
 from .skips import Skips
 from .trajectory import TOLERANCE, ByTime, InTurn, Nearness, Same
@@ -71,10 +72,31 @@ def _expect_use(options):
 
 def _frames(options):
     """In which frames poses and points are."""
-    if options.turn and options.world:
+    if options.world and options.turn is not None and options.turn is not IDENTITY:
         raise Unusable("--turn and --world exclude each other")
-    mount = Pose.of(options.sensor[:3], options.sensor[3:]) if options.sensor else IDENTITY
+    mount = _pose_asked("--sensor", options.sensor) if options.sensor else IDENTITY
     return Frames(mount, options.turn or IDENTITY, options.world)
+
+
+def _pose_asked(option, numbers):
+    try:
+        return Pose.read(numbers[:3], numbers[3:])
+    except Unusable as why:
+        raise why.named(option)
+
+
+def _tell_axes(options):
+    """Says along which axes the poses of KITTI's form are; Unusable where the clouds are KITTI's,
+    too, whose own poses are a camera's."""
+    named = [it for it in options.clouds if is_bin(it) and ".pcd." not in it.lower()]
+    is_kitti = options.format == "kitti" or (named and options.format is None)
+    camera = "a camera's (x right, y down, z ahead), as KITTI's own are (--turn camera)"
+    if is_kitti:
+        said = f"whether its poses are along the axes of the map (--turn none) or {camera}"
+        raise Unusable(f"{said} isn't said", options.poses)
+    if not options.quiet:
+        said = "its poses are taken along the map's axes (x ahead, y to the left, z up)"
+        say(f"{options.poses}: {said}, and not {camera}")
 
 
 def _trajectory(options, nearness, skips):
@@ -82,7 +104,7 @@ def _trajectory(options, nearness, skips):
     if options.pose and options.poses is not None:
         raise Unusable("--pose and --poses exclude each other")
     if options.pose:
-        return Same(Pose.of(options.pose[:3], options.pose[3:]))
+        return Same(_pose_asked("--pose", options.pose))
     is_by_time = options.by_time or options.times is not None
     if options.poses is None:
         if is_by_time:
@@ -94,7 +116,10 @@ def _trajectory(options, nearness, skips):
         return None
     if not (is_by_time or options.interpolate):
         is_sure = options.order == "given"
-        return InTurn(options.poses, skips, options.pose_format, is_sure=is_sure)
+        found = InTurn(options.poses, skips, options.pose_format, is_sure=is_sure)
+        if found.form == "kitti" and options.turn is None:
+            _tell_axes(options)
+        return found
     # (a bag has times of its own)
     named = [it for it in options.clouds if not is_bag(it, options.format)]
     chosen = {"clouds": named, "times": options.times, "form": options.pose_format}

@@ -7,7 +7,8 @@ import numpy as np
 
 from .errors import Unusable
 from .kinds import tell_cut, text_of
-from .poses import Pose, numbers_of, read_poses
+from .posefiles import read_poses
+from .poses import Pose, numbers_of
 from .stamps import TIMES, seconds, shown, times_of
 
 
@@ -35,8 +36,8 @@ class InTurn:
         """is_sure: the order of the poses is meant, whatever their times say."""
         found, self.name = read_poses(name, skips, form), name
         if not is_sure:
-            self._expect_order([time for time, _ in found])
-        self.poses = [pose for _, pose in found]
+            self._expect_order([time for time, _ in found.timed])
+        self.form, self.poses = found.form, [pose for _, pose in found.timed]
 
     def _expect_order(self, times):
         timed = [(time, number) for number, time in enumerate(times, 1) if time is not None]
@@ -115,7 +116,7 @@ class ByTime:
     def __init__(self, name, skips, nearness, *, clouds=(), times=None, form=None):
         """clouds: the names of files, which say when each was taken; times: the name of a file
         that says it of the clouds in turn."""
-        found = read_poses(name, skips, form)
+        found = read_poses(name, skips, form).timed
         if any(time is None for time, pose in found if pose is not None):
             raise Unusable("its poses have no times, which --by-time takes", name)
         found = _one_each(found, name, skips)

@@ -141,7 +141,7 @@ def _pose_in(message):
     else:
         pose = message.pose.pose if message._type.endswith("Odometry") else message.pose
         place, turn = pose.position, pose.orientation
-    return Pose.of((place.x, place.y, place.z), (turn.w, turn.x, turn.y, turn.z))
+    return Pose.read((place.x, place.y, place.z), (turn.w, turn.x, turn.y, turn.z))
 
 
 class _Frames:

@@ -26,7 +26,7 @@ def read(name, content, reading):
         four = numbers.pop(3)
         if (three, four) != (3, 4) or (records["size"] != 3).any():
             raise Unusable(f"node {number} isn't as log2graph writes it")
-        pose = Pose.of(numbers[:3], numbers[3:7])
+        pose = Pose.read(numbers[:3], numbers[3:7])
         yield Cloud(f"{name} node {number}", records["at"].copy(), pose)
         at = end + POSE.size
 

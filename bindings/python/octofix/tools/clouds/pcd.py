@@ -116,7 +116,7 @@ def _viewpoint(found):
         numbers = numbers_of(words[1:], row)
         if len(numbers) != 7:
             raise Unusable(f"VIEWPOINT has 7 numbers, and here are {len(numbers)}")
-        return Pose.of(numbers[:3], numbers[3:])
+        return Pose.read(numbers[:3], numbers[3:])
 
 
 def _of_text(body, header):
