@@ -239,27 +239,80 @@ class Bags(InFolder):
     def test_odometry(self):
         wanted = "scan 0 0 0 1 0 0 0 all\np 2 0 0.25\np 0 1 0.5\nend\n"
         wanted += "scan 1 0 0 1 0 0 0 all\np 0 2 0.25\np -1 0 0.5\nend\n"
-        self.assertEqual(self.script_of("--pose-topic", "/odom", status=3), wanted)
+        words = ["--pose-topic", "/odom", "--nearest"]
+        self.assertEqual(self.script_of(*words, status=3), wanted)
 
     def test_tf(self):
         """The lidar stands one metre above the base, and half a metre ahead."""
         wanted = "scan 0.5 0 1 1 0 0 0 all\np 2 0 0.25\np 0 1 0.5\nend\n"
         wanted += "scan 1 0.5 1 1 0 0 0 all\np 0 2 0.25\np -1 0 0.5\nend\n"
-        self.assertEqual(self.script_of("--frame", "odom", status=3), wanted)
+        self.assertEqual(self.script_of("--frame", "odom", "--nearest", status=3), wanted)
 
     def test_interpolated(self):
         """The clouds are from a tenth and from nine tenths of the time in which the base moves by a
         metre and turns by 90 degrees: by 9 and by 81."""
-        words = ["--interpolate", "--tolerance", "0.2"]
         points = ["p 1.975376681 0.31286893 0.25\np -0.156434465 0.987688341 0.5\nend\n"]
         points += ["p 0.31286893 1.975376681 0.25\np -0.987688341 0.156434465 0.5\nend\n"]
         origins = ["0.59384417 0.078217233 1", "0.978217233 0.49384417 1"]
         scans = [f"scan {it} 1 0 0 0 all\n" for it in origins]
-        script = self.script_of("--frame", "odom", *words, status=3)
+        script = self.script_of("--frame", "odom", status=3)
         self.assertEqual(script, scans[0] + points[0] + scans[1] + points[1])
         scans = [f"scan {it} 0 0 1 0 0 0 all\n" for it in ("0.1", "0.9")]
-        script = self.script_of("--pose-topic", "/odom", *words, status=3)
-        self.assertEqual(script, scans[0] + points[0] + scans[1] + points[1])
+        for words in ([], ["--interpolate", "--tolerance", "0.2"]):
+            script = self.script_of("--pose-topic", "/odom", *words, status=3)
+            self.assertEqual(script, scans[0] + points[0] + scans[1] + points[1])
+
+    def test_gaps(self):
+        """The third cloud is 0.4 s behind the last pose, and only the lidar's mount is fixed."""
+        words = ["map", "--res", 1, DATA / "small.bag", "-o", "a.bt"]
+        end = "near enough to its time 10.5, the nearest one is of 10.1 (--tolerance)\n"
+        ran = self.done(*words, "--pose-topic", "/odom", status=3)
+        self.assertIn(f"no pose on /odom is {end}", ran.said)
+        ran = self.done(*words, "--frame", "odom", status=3)
+        self.assertIn(f"nothing that tf says of base is {end}", ran.said)
+
+    def split(self, *times):
+        """The messages of the bag in several bags, parted at these times of their records."""
+        rosbag = importlib.import_module("rosbag")
+        names = [f"{it}.bag" for it in range(len(times) + 1)]
+        bags = [rosbag.Bag(it, "w") for it in names]
+        with rosbag.Bag(str(DATA / "small.bag")) as whole:
+            for topic, message, time in whole.read_messages(raw=True):
+                bag = bags[sum(time.to_sec() >= it for it in times)]
+                bag.write(topic, message, time, raw=True)
+        for it in bags:
+            it.close()
+        return names
+
+    def test_split(self):
+        """What tf says goes on from bag to bag, in both directions, whatever their order."""
+        wanted = self.script_of("--frame", "odom", status=3)
+        names = self.split(10.05)
+        self.assertEqual(self.script(*names, "--frame", "odom", status=3), wanted)
+        cut = wanted.index("scan", 1)
+        script = self.script(*names[::-1], "--frame", "odom", status=3)
+        self.assertEqual(script, wanted[cut:] + wanted[:cut])
+        # (the static one alone, and a bag between that can't be read)
+        names = self.split(9.5)
+        with open("bad.bag", "wb") as file:
+            file.write(b"#ROSBAG V2.0\n")
+        words = [names[1], "bad.bag", names[0], "--frame", "odom", "--on-error", "skip"]
+        self.assertEqual(self.script(*words, status=3), wanted)
+
+    def test_times_that_begin_anew(self):
+        """The same drive once more, 7 m to the left: each bag has its own tf, as both were recorded
+        at one time."""
+        wanted = self.script_of("--frame", "odom", status=3)
+        rosbag = importlib.import_module("rosbag")
+        with rosbag.Bag(str(DATA / "small.bag")) as whole, rosbag.Bag("a.bag", "w") as moved:
+            for topic, message, time in whole.read_messages():
+                for it in message.transforms if topic == "/tf" else ():
+                    it.transform.translation.y += 7
+                moved.write(topic, message, time)
+        script = self.script("a.bag", DATA / "small.bag", "--frame", "odom", status=3)
+        other = wanted.replace(" 0.078217233 1 1", " 7.078217233 1 1")
+        other = other.replace(" 0.49384417 1 1", " 7.49384417 1 1")
+        self.assertEqual(script, other + wanted)
 
     def test_by_its_first_bytes(self):
         os.symlink(DATA / "small.bag", "drive")

@@ -1,5 +1,6 @@
 """Poses of clouds: in turn, by time, of a mount; and which points are taken."""
 
+import importlib.util
 import os
 
 import numpy as np
@@ -10,7 +11,7 @@ from octofix.tools import poses
 from octofix.tools.ordering import in_order
 from octofix.tools.errors import Unusable
 from octofix.tools.stamps import times_of
-from octofix.tools.trajectory import between
+from octofix.tools.trajectory import Nearness, Track, between
 
 
 HALF = 0.5**0.5
@@ -389,12 +390,39 @@ class ByTime(InFolder):
 
     def test_nearest(self):
         words = ["map", "--res", "1", "--poses", "poses.tum", "--by-time", *self.clouds]
-        ran = self.done(*words, "--tolerance", "0.1", "--script", "-", status=3)
+        words += ["--tolerance", "0.1", "--script", "-"]
+        ran = self.done(*words, "--nearest", status=3)
         first = "scan 0 0 0 1 0 0 0 all\np 1 0 0\nend\n"
         self.assertEqual(ran.output.decode(), first + "scan 2 0 0 1 0 0 0 all\np 0 1 0\nend\n")
         said = "no pose is near enough to its time 7.5, the nearest one is of 1.2 (--tolerance)"
         self.assertIn(f"gap: scan_7.5.xyz: {said}\n", ran.said)
         self.assertIn("1 gaps without a pose", ran.said)
+        self.assertEqual(self.done(*words, "--nearest", "--interpolate", status=2).output, b"")
+
+    def test_interpolated(self):
+        """At three quarters of the way the turn is 67.5 degrees; before the first pose and behind
+        the last one they are taken as they are."""
+        wanted = "scan 0 0 0 1 0 0 0 all\np 1 0 0\nend\n"
+        wanted += "scan 1.5 0 0 1 0 0 0 all\np 0.382683432 0.923879533 0\nend\n"
+        for words in (["--by-time"], ["--interpolate"], ["--by-time", "--interpolate"]):
+            words += ["--poses", "poses.tum", "--tolerance", "0.1", *self.clouds]
+            self.assertEqual(self.script(*words, status=3), wanted)
+        os.rename("scan_7.5.xyz", "scan_1.2125.xyz")
+        script = self.script("--poses", "poses.tum", "--by-time", "scan_1.2125.xyz")
+        self.assertEqual(script, "scan 2 0 0 1 0 0 0 all\np 0 1 0\nend\n")
+
+    def test_a_turn_of_a_radian_a_second(self):
+        """Poses come ten times a second: half way between two a point at 20 m stood 1 m beside its
+        place."""
+        with open("poses.tum", "w") as file:
+            for at in range(10):
+                turn = f"{np.sin(at / 20):.17f} {np.cos(at / 20):.17f}"
+                file.write(f"{at / 10} {at / 10} 0 0 0 0 {turn}\n")
+        with open("scan_0.15.xyz", "w") as file:
+            file.write("20 0 0\n")
+        script = self.script("--poses", "poses.tum", "--by-time", "scan_0.15.xyz")
+        point = f"{20 * np.cos(0.15):.9f} {20 * np.sin(0.15):.9f}"
+        self.assertEqual(script, f"scan 0.15 0 0 1 0 0 0 all\np {point} 0\nend\n")
 
     def test_two_poses_at_one_time(self):
         """The same one twice is one; of others the first may be taken, and that is said."""
@@ -419,12 +447,6 @@ class ByTime(InFolder):
         ]
         self.assertEqual(counts, [1, 1, 2])
         self.assertEqual(self.script(*words, "--tolerance", "0.004", status=1), "")
-
-    def test_interpolated(self):
-        """At three quarters of the way the turn is 67.5 degrees; before the first pose is a gap."""
-        words = ["--poses", "poses.tum", "--interpolate", "--tolerance", "0.2", *self.clouds]
-        script = self.script(*words, status=3)
-        self.assertEqual(script, "scan 1.5 0 0 1 0 0 0 all\np 0.382683432 0.923879533 0\nend\n")
 
     def test_times(self):
         with open("times.txt", "w") as file:
@@ -506,6 +528,23 @@ class Turns(InFolder):
         turn = between(first, second, 0.5).turn
         eighth = np.pi / 8
         np.testing.assert_allclose(turn, [np.cos(eighth), 0, 0, np.sin(eighth)], atol=1e-12)
+
+    def test_as_scipy_has_it(self):
+        """Slerp of SciPy, for 300 pairs of turns, at times between them."""
+        if importlib.util.find_spec("scipy") is None:
+            self.skipTest("scipy isn't there")
+        transform = importlib.import_module("scipy.spatial.transform")
+        random = np.random.default_rng(3)
+        for _ in range(300):
+            ends = [poses.Pose.of(random.normal(size=3), random.normal(size=4)) for _ in range(2)]
+            turns = transform.Rotation.from_quat([np.roll(it.turn, -1) for it in ends])
+            time = random.uniform(4, 6)
+            track = Track([(it, pose) for it, pose in zip((4, 6), ends)], Nearness(2))
+            came = track.at(time)
+            wanted = transform.Slerp((4, 6), turns)(time).as_matrix()
+            np.testing.assert_allclose(came.matrix(), wanted, atol=1e-12)
+            place = ends[0].at + (time - 4) / 2 * (ends[1].at - ends[0].at)
+            np.testing.assert_allclose(came.at, place, atol=1e-12)
 
     def test_matrix_and_back(self):
         for number in range(200):

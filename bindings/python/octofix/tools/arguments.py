@@ -195,11 +195,14 @@ def _add_poses(group):
         "--times", type=Input, metavar="FILE", help="by these times, a line for each cloud"
     )
     group.add_argument(
-        "--tolerance", type=positive, metavar="S", help="seconds to a pose (0.05)"
+        "--tolerance", type=positive, metavar="S", help="seconds to the nearest pose (0.05)"
     )
-    group.add_argument(
-        "--interpolate", action="store_true", help="a pose between the two around the time"
-    )
+    how = group.add_mutually_exclusive_group()
+    how.add_argument(
+        "--interpolate", action="store_true",
+        help="by times, a pose between the two around each (this is done without, too)",
+    )  # fmt: skip
+    how.add_argument("--nearest", action="store_true", help="by times, the nearest pose as it is")
     group.add_argument(
         "--sensor", nargs=7, type=finite, metavar=("X", "Y", "Z", "QW", "QX", "QY", "QZ"),
         help="how the sensor is mounted on what the poses are of",

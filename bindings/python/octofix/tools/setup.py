@@ -15,7 +15,7 @@ from .skips import Skips
 from .trajectory import TOLERANCE, ByTime, InTurn, Nearness, Same
 
 OF_BAGS = ("topic", "pose_topic", "frame")
-BY_TIME = ("by_time", "times", "interpolate", "pose_topic", "frame")
+BY_TIME = ("by_time", "times", "interpolate", "nearest", "pose_topic", "frame")
 
 
 def scans_of(options):
@@ -24,8 +24,9 @@ def scans_of(options):
     if not skips.is_skipping:
         _expect_files(options.clouds)
     _expect_use(options)
-    nearness = Nearness(options.tolerance or TOLERANCE, options.interpolate)
-    topics = Topics(options.topic, options.pose_topic, options.frame, nearness)
+    nearness = Nearness(options.tolerance or TOLERANCE, not options.nearest)
+    bags = tuple(it for it in options.clouds if is_bag(it, options.format))
+    topics = Topics(options.topic, options.pose_topic, options.frame, nearness, bags)
     allows_empty = getattr(options, "allow_empty", False)
     reading = Reading(
         options.format, options.columns, topics, allows_empty, options.columns_of_bin
@@ -66,7 +67,7 @@ def _expect_use(options):
     if options.pose_topic is not None and options.frame is not None:
         raise Unusable("--pose-topic and --frame exclude each other")
     if options.tolerance is not None and not any(getattr(options, it) for it in BY_TIME):
-        needed = "--by-time, --times, --interpolate, --pose-topic or --frame"
+        needed = "--by-time, --times, --pose-topic or --frame"
         raise Unusable(f"--tolerance needs {needed}")
 
 
@@ -106,15 +107,16 @@ def _trajectory(options, nearness, skips):
     if options.pose:
         return Same(_pose_asked("--pose", options.pose))
     is_by_time = options.by_time or options.times is not None
+    how = "--interpolate" * options.interpolate or "--nearest" * options.nearest
     if options.poses is None:
         if is_by_time:
             raise Unusable("--by-time and --times need --poses")
         if options.pose_format:
             raise Unusable("--pose-format needs --poses")
-        if options.interpolate and options.frame is None and options.pose_topic is None:
-            raise Unusable("--interpolate needs --poses, --pose-topic or --frame")
+        if how and options.frame is None and options.pose_topic is None:
+            raise Unusable(f"{how} needs --poses, --pose-topic or --frame")
         return None
-    if not (is_by_time or options.interpolate):
+    if not (is_by_time or how):
         is_sure = options.order == "given"
         found = InTurn(options.poses, skips, options.pose_format, is_sure=is_sure)
         if found.form == "kitti" and options.turn is None:

@@ -63,11 +63,11 @@ class InTurn:
 
 @dataclass(frozen=True)
 class Nearness:
-    """Which pose is near enough to a time: the nearest one within so many seconds, or the one
-    between the two around it, both within them."""
+    """Which pose a time has where one is within so many seconds: one between the two around it, or
+    the nearest one. Before the first pose and behind the last one it is the nearest one."""
 
     tolerance: float = TOLERANCE
-    is_between: bool = False
+    is_between: bool = True
 
 
 class Track:
@@ -84,30 +84,22 @@ class Track:
         """The pose, or None where none is near enough."""
         after = int(np.searchsorted(self.stamps, time))
         around = [it for it in (after - 1, after) if 0 <= it < len(self.poses)]
-        near = [it for it in around if abs(self.stamps[it] - time) <= self.nearness.tolerance]
-        if self.nearness.is_between and len(around) == 2:
-            return self._between(time, *around) if len(near) == 2 else self._exact(time, near)
-        if self.nearness.is_between:
-            return self._exact(time, near)
-        if not near:
+        nearest = min(around, key=lambda it: abs(self.stamps[it] - time), default=None)
+        if nearest is None or abs(self.stamps[nearest] - time) > self.nearness.tolerance:
             return None
-        return self.poses[min(near, key=lambda it: abs(self.stamps[it] - time))]
+        is_at_one = len(around) < 2 or self.stamps[after] == time
+        if is_at_one or not self.nearness.is_between:
+            return self.poses[nearest]
+        before, end = self.stamps[around]
+        return between(*(self.poses[it] for it in around), (time - before) / (end - before))
 
-    def gap(self, time):
-        """Why there is no pose at a time."""
+    def gap(self, time, what="no pose"):
+        """Why there is no pose at a time: `what` isn't near it."""
         if not len(self.stamps):
-            return "there is no pose"
+            return f"there is {what}"
         nearest = self.stamps[np.abs(self.stamps - time).argmin()]
-        said = f"no pose is near enough to its time {shown(time)}"
+        said = f"{what} is near enough to its time {shown(time)}"
         return f"{said}, the nearest one is of {shown(nearest)} (--tolerance)"
-
-    def _exact(self, time, near):
-        return next((self.poses[it] for it in near if self.stamps[it] == time), None)
-
-    def _between(self, time, before, after):
-        span = self.stamps[after] - self.stamps[before]
-        part = (time - self.stamps[before]) / span if span else 0.0
-        return between(self.poses[before], self.poses[after], part)
 
 
 class ByTime:

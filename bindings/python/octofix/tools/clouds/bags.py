@@ -2,33 +2,33 @@
 
 import contextlib
 import io
-from dataclasses import dataclass, replace
+from dataclasses import dataclass, field, replace
 
 import numpy as np
 
 from ..errors import Unusable, failing_as
-from ..files import GZIP
 from ..optional import needed
-from ..poses import IDENTITY, Pose
 from ..trajectory import Nearness, Track
 from .cloud import Cloud, xyz_of
+from .rosbags import POSES, opened, pose_in
+from .transforms import Frames
 
 CLOUDS = "sensor_msgs/PointCloud2"
-POSES = ("nav_msgs/Odometry", "geometry_msgs/PoseStamped", "geometry_msgs/TransformStamped")
-# What tf_static says holds at any time.
-ALWAYS = Nearness(float("inf"))
 TYPES = dict(enumerate(("i1", "u1", "i2", "u2", "i4", "u4", "f4", "f8"), 1))
 
 
 @dataclass(frozen=True)
 class Topics:
     """What is taken of a bag: the topic of clouds, that of the sensor's poses, or the frame in
-    which tf says where the sensor is, and which of these poses is near enough."""
+    which tf says where the sensor is, and which of these poses is near enough. What tf says goes on
+    from one to another of the `bags`, each of which is read once for that."""
 
     clouds: str = None
     poses: str = None
     frame: str = None
     nearness: Nearness = Nearness()
+    bags: tuple = ()
+    said: dict = field(default_factory=dict, compare=False)
 
 
 def read(name, topics):
@@ -49,25 +49,15 @@ def _clouds_in(name, topics):
     if name == "-":
         raise Unusable("a ROS bag is read of a file, and not of the input")
     # (of damaged bytes rosbag and genpy raise whatever they come across)
-    with failing_as("a ROS bag"), _opened(rosbag, name) as bag:
+    with failing_as("a ROS bag"), opened(rosbag, name) as bag:
         topic, notes = _topic_of(bag, topics.clouds)
-        where = _where(bag, topics)
+        where = _where(bag, name, topics)
         for _, message, _ in bag.read_messages(topics=[topic]):
             stamp = message.header.stamp.to_sec()
             pose, gap = where(message.header.frame_id, stamp)
             points = points_in(message)
             yield Cloud(f"{name} {topic} {stamp:.6f}", points, pose, stamp, notes, gap)
             notes = ()
-
-
-def _opened(rosbag, name):
-    with open(name, "rb") as file:
-        if file.read(len(GZIP)) == GZIP:
-            raise Unusable("it is packed, and a ROS bag isn't unpacked: do so first")
-    try:
-        return rosbag.Bag(name)
-    except rosbag.ROSBagUnindexedException:
-        raise Unusable("its record has no end; 'rosbag reindex' makes one") from None
 
 
 def _topic_of(bag, asked):
@@ -109,12 +99,12 @@ def _points_of(message):
     return xyz_of(records)
 
 
-def _where(bag, topics):
+def _where(bag, name, topics):
     """A function of a frame and a time: the pose there, or None with what is missing."""
     if topics.poses is not None:
         return _Stamped(bag, topics).pose_of
     if topics.frame is not None:
-        return _Frames(bag, topics).pose_of
+        return Frames(bag, name, topics).pose_of
     return lambda frame, time: (None, None)
 
 
@@ -124,50 +114,11 @@ class _Stamped:
         for _, message, _ in bag.read_messages(topics=[self.topic]):
             if message._type not in POSES:
                 raise Unusable(f"{self.topic} has {message._type}, and not {', '.join(POSES)}")
-            timed.append((message.header.stamp.to_sec(), _pose_in(message)))
+            timed.append((message.header.stamp.to_sec(), pose_in(message)))
         if not timed:
             raise Unusable(f"the bag has no poses on {self.topic}")
         self.track = Track(timed, topics.nearness)
 
     def pose_of(self, frame, time):
         pose = self.track.at(time)
-        return pose, None if pose else f"no pose on {self.topic} is near enough (--tolerance)"
-
-
-def _pose_in(message):
-    """The pose in a message of POSES."""
-    if message._type.endswith("TransformStamped"):
-        place, turn = message.transform.translation, message.transform.rotation
-    else:
-        pose = message.pose.pose if message._type.endswith("Odometry") else message.pose
-        place, turn = pose.position, pose.orientation
-    return Pose.read((place.x, place.y, place.z), (turn.w, turn.x, turn.y, turn.z))
-
-
-class _Frames:
-    """What tf says: for each frame its parent, and its pose there over time."""
-
-    def __init__(self, bag, topics):
-        self.wanted, self.parents, timed, fixed = topics.frame.strip("/"), {}, {}, set()
-        for topic, message, _ in bag.read_messages(topics=["/tf", "/tf_static"]):
-            for it in message.transforms:
-                child = it.child_frame_id.strip("/")
-                self.parents[child] = it.header.frame_id.strip("/")
-                fixed |= {child} if topic == "/tf_static" else set()
-                timed.setdefault(child, []).append((it.header.stamp.to_sec(), _pose_in(it)))
-        self.tracks = {
-            child: Track(its, ALWAYS if child in fixed else topics.nearness)
-            for child, its in timed.items()
-        }
-
-    def pose_of(self, frame, time):
-        frame, pose, seen = frame.strip("/"), IDENTITY, set()
-        while frame != self.wanted:
-            if frame not in self.parents or frame in seen:
-                return None, f"tf has no way from {frame} to {self.wanted}"
-            seen.add(frame)
-            step = self.tracks[frame].at(time)
-            if step is None:
-                return None, f"tf says nothing of {frame} near the time (--tolerance)"
-            pose, frame = step.carrying(pose), self.parents[frame]
-        return pose, None
+        return pose, None if pose else self.track.gap(time, f"no pose on {self.topic}")
