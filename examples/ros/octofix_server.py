@@ -93,14 +93,16 @@ class Server:
             range=reach if reach > 0 else None,
             low=[parameter(f"pointcloud_min_{it}", -math.inf) for it in "xyz"],
             high=[parameter(f"pointcloud_max_{it}", math.inf) for it in "xyz"],
+            scale=1,  # (messages are in metres)
             patience=round(parameter("patience", 1.0) * NANO),
         )  # fmt: skip
         self.advertise()
         rospy.Service("~save", Trigger, self.save)
         rospy.Service("~reset", Empty, self.reset)
         rospy.Subscriber("cloud_in", PointCloud2, self.cloud, queue_size=5, buff_size=1 << 26)
-        rospy.Timer(rospy.Duration(RETRY), lambda _: self.mapper.work())
-        rospy.Timer(rospy.Duration(parameter("period", 1.0)), self.publish)
+        # (else both end where simulated time begins anew)
+        rospy.Timer(rospy.Duration(RETRY), lambda _: self.mapper.work(), reset=True)
+        rospy.Timer(rospy.Duration(parameter("period", 1.0)), self.publish, reset=True)
 
     def advertise(self):
         is_latched = parameter("latch", True)
