@@ -496,7 +496,7 @@ class Map:
         return voxels_in(self._leaves_of(kind), limit)
 
     def centers(self, keys: npt.ArrayLike) -> npt.NDArray[np.float64]:
-        """The middles of the voxels with these keys, (n, 3), in metres."""
+        """The middles of the voxels with these keys, (n, 3), in metres. Refused: 24 (`index`)."""
         self._check_open()
         return _arrays.centers_of(keys, self._edge)
 

@@ -60,7 +60,7 @@ def _cloud(ending, content, *words):
 
 
 def _poses(content, many):
-    clouds = [DATA / "corner.xyz"] * many
+    clouds = [DATA / it for it in ("corner.pcd", "corner.xyz", "corner_ascii.ply")[:many]]
     return Sample("poses", content, ("map", "--res", "100", "--quiet", "--poses", "poses", *clouds))
 
 

@@ -105,8 +105,9 @@ class Jobs(InFolder):
         """Each region has one voxel, which takes 16 groups, and both take 31 together."""
         with open("poses.tum", "w") as poses:
             poses.write("0 5 5 5 0 0 0 1\n0 -5 -5 -5 0 0 0 1\n")
-        np.save("a.npy", [[0.01, 0.01, 0.01]])
-        words = ["--res", 0.1, "--max-groups", 16, "--poses", "poses.tum", "a.npy", "a.npy"]
+        for name in ("a.npy", "b.npy"):
+            np.save(name, [[0.01, 0.01, 0.01]])
+        words = ["--res", 0.1, "--max-groups", 16, "--poses", "poses.tum", "a.npy", "b.npy"]
         self.done("map", *words, "--jobs", 2, "--snapshot", "a.snap")
         with Map.from_snapshot("a.snap") as world:
             self.assertEqual(world.get([[5.01] * 3, [-4.99] * 3]).tolist(), [850, 850])

@@ -317,6 +317,10 @@ class Words(InFolder):
             ("-o", "c.ot", "an .ot file, and a .bt file, which has classes alone, is written"),
             ("-o", "c.bt.gz", "a file packed by gzip, and a .bt file, which has classes alone, is "
              "written"),
+            ("-o", "h.pcd", "a cloud, and a .bt file, which has classes alone, is written"),
+            ("-o", "H.NPY", "a cloud, and a .bt file, which has classes alone, is written"),
+            ("-o", "h.html", "a page, and a .bt file, which has classes alone, is written"),
+            ("--snapshot", "h.png", "a picture, and a snapshot is written"),
         ):  # fmt: skip
             for words in (["map", "--res", 1, "-"], ["merge", "a.bt"]):
                 ran = self.done(*words, option, name, status=2)

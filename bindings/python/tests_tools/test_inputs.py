@@ -123,6 +123,44 @@ class Columns(Inputs):
         self.is_refused(said, "NODE 0 0 0 0 0 0\n1 2 3\n", "--columns", "1,2,3")
         self.is_refused(": no column has the name '²'", "1 2 3\n", "--columns", "1,2,²")
 
+    def test_one_column_twice(self):
+        said = ": x, y and z are three columns, and two of them are 1 (--columns)"
+        for words in ("1,1,1", "x,2,1", "3,x,x"):
+            self.is_refused(said, "# x y z\n1 2 3\n", "--columns", words)
+        self.is_refused(said, npy(np.ones((2, 4))), "--columns", "1,2,1")
+        with self.assertRaisesRegex(clouds.BadCloud, "three columns"):
+            next(clouds.read("bad", columns=[1, 2, 1]))
+
+    def test_decimal_commas(self):
+        said = "'1,5' has a decimal comma, and a point is read (tr ',' '.')"
+        for row in ("1,5;2,5;3,5", "1,5 2,5 3,5", "1,5\t2\t3", "1,5;2;3", " 1,5; 2,5; 3,5"):
+            for words in ([], ["--columns", "1,2,3"]):
+                self.is_refused(f":1: {said}", f"{row}\n", *words)
+                self.is_refused(f":2: {said}", f"# a cloud\n{row}\n", *words)
+        self.is_refused(f":2:3: {said}", "1;2;3\n0;1,5;2\n")
+        self.is_refused(f":2:3: {said}", "NODE 0 0 0 0 0 0\n0 1,5 2\n")
+        for row in ("1,5,3", "1, 5, 3", "1 ,5 ,3", "1,5\t,3"):
+            self.assertEqual(self.points(f"{row}\n".encode()), ["1 5 3"])
+        words = ["map", "--res", 1, DATA / "corner.xyz", "-o", "a.bt"]
+        for front in ("", "0 1 2 3 0 0 0 1\n"):
+            self.write("poses", f"{front}1 1,5 2 3 0 0 0 1\n")
+            line = 1 + front.count("\n")
+            self.refused(f"poses:{line}: {said}", *words, "--poses", "poses")
+        self.write("times", "1,5\n")
+        words += ["--poses", DATA / "poses.tum", "--times", "times"]
+        self.refused(f"times:1:1: {said}", *words)
+
+    def test_one_cloud_twice(self):
+        """By its name, and by a link."""
+        self.write("a.xyz", "1 2 3\n")
+        self.write("b.xyz", "1 2 3\n")
+        os.symlink("a.xyz", "c.xyz")
+        words = ["map", "--res", 1, "-o", "a.bt", "a.xyz", "b.xyz"]
+        self.done(*words)
+        said = "and each cloud counts once"
+        self.refused(f"a.xyz: it is given twice, {said}", *words, "a.xyz")
+        self.refused(f"c.xyz: it is the same file as a.xyz, {said}", *words, "c.xyz")
+
     def test_too_far(self):
         """Times in place of coordinates, or millimetres, make no map."""
         said = ": none of its 2 points is finite and below 10,000 km away"

@@ -116,9 +116,11 @@ class Parts(InFolder):
     def test_same_values(self):
         """Each voxel is updated once by a scan, however many parts it is done in."""
         random = np.random.default_rng(3)
-        np.save("a.npy", random.normal(size=(60, 3)) * 3)
+        points = random.normal(size=(60, 3)) * 3
+        for name in ("a.npy", "b.npy"):
+            np.save(name, points)
         for limit, name in (("100", "parts"), ("100000", "whole")):
-            words = ["map", "--res", "0.5", "a.npy", "a.npy", "--max-cells", limit]
+            words = ["map", "--res", "0.5", "a.npy", "b.npy", "--max-cells", limit]
             said = self.done(*words, "--snapshot", name, "-o", f"{name}.bt").said
             self.assertEqual("2 of them in parts" in said, name == "parts")
         snapshots = [Map.from_snapshot(it, max_cells=1000) for it in ("parts", "whole")]

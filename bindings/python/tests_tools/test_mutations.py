@@ -80,7 +80,7 @@ class Mutations(InFolder):
         lines = [it for it in ran.said.splitlines() if not re.search(BESIDE, it)]
         self.assertEqual((is_old, len(lines)), (ran.status == 1,) * 2, ran.said)
         if lines:
-            named = rf"^octofix: (no scan has a point|([^ ]*corner.xyz|{sample.name})\b.*: )"
+            named = rf"^octofix: (no scan has a point|([^ ]*corner\w*[.]\w+|{sample.name})\b.*: )"
             self.assertRegex(lines[0], named)
         # (the readers of the package itself foresee all bytes)
         self.assertNotIn("read as the form", ran.said)

@@ -50,7 +50,7 @@ class InTurn(InFolder):
         forgotten, too. Within a line it is refused."""
         rows = "0 1 2 3 0 0 0 1\n1 1 2 4.5 0 0 0 1.0"
         said = "octofix: poses:2: the last line has no end (LF), so the file may have been cut\n"
-        clouds = [DATA / "corner.xyz"] * 2
+        clouds = DATA / "corner.pcd", DATA / "corner.xyz"
         for cut, wanted in ((rows, said), (rows[:-2], said), (rows + "\n", ""), (rows + "\n# 2", "")):
             with open("poses", "w") as file:
                 file.write(cut)
@@ -66,7 +66,7 @@ class InTurn(InFolder):
             with open(name, "w") as file:
                 file.write(rows)
         said = "octofix: times:2: the last line has no end (LF), so the file may have been cut\n"
-        clouds = [DATA / "corner.xyz"] * 2
+        clouds = DATA / "corner.pcd", DATA / "corner.xyz"
         words = "map", "--res", "0.1", "--quiet", "--poses", "poses", "--times", "times"
         self.assertEqual(self.done(*words, *clouds, "-o", "a.bt").said, said)
 
@@ -128,7 +128,8 @@ class Order(InFolder):
         said = "poses: poses go to clouds in turn, and pose 4 is earlier than pose 3 "
         said += "(--by-time goes by times, --order given doesn't)"
         self.refused(said, "map", "--res", 1, *words, "--order", "natural", "-o", "a.bt")
-        script = self.script(*words, "10.npy", "--order", "given")
+        np.save("5.npy", [[1, 1, 0]])
+        script = self.script(*words, "5.npy", "--order", "given")
         starts = [f"scan {it} 0 0" for it in (0, 0, 2, 1)]
         self.assertEqual([it[:10] for it in script.split("\n") if "scan" in it], starts)
 
@@ -294,8 +295,9 @@ class Forms(InFolder):
     def test_matrices(self):
         """Of four rows, in one line or in four."""
         rows = ["0 -1 0 1", "1 0 0 2", "0 0 1 3", "0 0 0 1"]
-        for parting in (" ", ",", "\n", "\n\n# next\n"):
+        for parting in (" ", "\n", "\n\n# next\n"):
             self.assertEqual(self.scan(parting.join(rows) + "\n"), self.TURNED)
+        self.assertEqual(self.scan(" ".join(rows).replace(" ", ",") + "\n"), self.TURNED)
         two = "\n".join(rows * 2) + "\n"
         np.save("1.npy", [[2, 0, 0.5]])
         self.assertEqual(self.scan(two, "1.npy"), self.TURNED * 2)
@@ -317,7 +319,7 @@ class Forms(InFolder):
         with open("poses", "w") as file:
             file.write("0 1 2 3 0 0 0 1\n1 0 0 1 0 1 0 2 0 0 1 3\n")
         said = "poses:2: a pose has 8 numbers here (tum), and not 12"
-        words = ["map", "--res", 1, "--poses", "poses", "a.xyz", "a.xyz", "-o", "a.bt"]
+        words = ["map", "--res", 1, "--poses", "poses", "a.xyz", "-", "-o", "a.bt"]
         self.refused(said, *words)
         said = "poses:1: a pose has 12 numbers here (kitti), and not 8"
         self.refused(said, *words, "--pose-format", "kitti")

@@ -25,6 +25,12 @@ NAMED = {
     ".ot": "an .ot file",
     ".gz": "a file packed by gzip",
 }
+OTHERS = {
+    "a cloud": ".pcd .ply .npy .npz .xyz .pts .csv .las .laz .graph .bag",
+    "a picture": ".png .pgm .jpg",
+    "a page": ".html .htm",
+}
+NAMED |= {ending: kind for kind, endings in OTHERS.items() for ending in endings.split()}
 
 
 AXES = {"camera": CAMERA, "none": IDENTITY}
@@ -32,13 +38,12 @@ AXES = {"camera": CAMERA, "none": IDENTITY}
 
 def classes_output(word):
     """The name of a .bt file that is written; not of a snapshot, whose values it would lack."""
-    others = ".snap", ".snapshot", ".ot", ".gz"
-    return _named(word, others, "a .bt file, which has classes alone,")
+    return _named(word, NAMED.keys() - {".bt"}, "a .bt file, which has classes alone,")
 
 
 def values_output(word):
     """The name of a snapshot that is written; not of a .bt file, which other programs read."""
-    return _named(word, (".bt", ".ot", ".gz"), "a snapshot")
+    return _named(word, NAMED.keys() - {".snap", ".snapshot"}, "a snapshot")
 
 
 def _named(word, others, kind):

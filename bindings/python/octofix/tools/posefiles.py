@@ -8,7 +8,7 @@ import numpy as np
 
 from .errors import Unusable, on_line
 from .kinds import tell_cut, text_of
-from .poses import ROUNDING, Pose, is_number, numbers_of, of_matrix
+from .poses import ROUNDING, Pose, is_number, numbers_of, of_matrix, refuse_commas
 from .stamps import NANOSECONDS, seconds
 
 # Forms, and how many numbers a pose has: 'time x y z qx qy qz qw' of the TUM benchmarks, a 3 x 4
@@ -57,7 +57,10 @@ def read_poses(name, skips, form=None):
     """The PoseList of a file, in a form of FORMS, or in the one that it shows. What can't be used
     is passed over where `skips` lets it."""
     found, text = [], text_of(name)
-    rows, headings = _rows_of(text)
+    try:
+        rows, headings = _rows_of(text)
+    except Unusable as why:
+        raise why.named(name)
     if not rows:
         raise Unusable("it has no pose", name)
     is_block = form in (None, "matrix") and len(rows[0].words) == SIDE
@@ -81,6 +84,8 @@ def _rows_of(text):
     for line, row in enumerate(text.split("\n"), 1):
         words = row.replace(",", " ").split()
         if words and not words[0].startswith("#") and (rows or any(map(is_number, words))):
+            with on_line(line):
+                refuse_commas(row)
             rows.append(_Row(line, row, words))
         else:
             headings.append(row)

@@ -1,6 +1,7 @@
 """Where a sensor stood and how it was turned."""
 
 import math
+import re
 from dataclasses import dataclass
 
 import numpy as np
@@ -8,6 +9,8 @@ import numpy as np
 from .errors import Unusable
 
 FARTHEST = 1e7
+# Whole, or with a decimal comma.
+NUMBER = re.compile(r"[-+]?[0-9]+(,[0-9]+([eE][-+]?[0-9]+)?)?")
 # How far the length of a quaternion that is read may be from 1.
 ROUNDING = 1e-3
 
@@ -123,16 +126,35 @@ def of_matrix(turn):
     return np.array((*rows, (c, e, f, squares[3]))[int(squares.argmax())])
 
 
+def refuse_commas(row):
+    """Unusable where a line has numbers with decimal commas, as 1,5;2,5;3,5."""
+    words = re.split(r"[;\s]+", row.strip())
+    if len(words) > 1 and "," in row and all(map(NUMBER.fullmatch, words)):
+        raise _with_comma(next(it for it in words if "," in it))
+
+
+def _with_comma(word, column=None):
+    said = f"{word[:40]!r} has a decimal comma, and a point is read (tr ',' '.')"
+    return Unusable(said, column=column)
+
+
 def numbers_of(words, row):
     """The numbers that words of a line spell; what is none is named with its column."""
     found, start = [], 0
     for word in words:
         start = row.index(word, start)
-        if not is_number(word):
-            raise Unusable(f"{word[:40]!r} is no number", column=start + 1)
-        found.append(float(word))
+        found.append(number_of(word, start + 1))
         start += len(word)
     return found
+
+
+def number_of(word, column=None):
+    """The number that a word spells, which begins in this column."""
+    if "," in word and NUMBER.fullmatch(word):
+        raise _with_comma(word, column)
+    if not is_number(word):
+        raise Unusable(f"{word[:40]!r} is no number", column=column)
+    return float(word)
 
 
 def is_number(word):

@@ -24,6 +24,7 @@ def scans_of(options):
     if not skips.is_skipping:
         _expect_files(options.clouds)
     _expect_use(options)
+    _refuse_twice(options.clouds)
     nearness = Nearness(options.tolerance or TOLERANCE, not options.nearest)
     bags = tuple(it for it in options.clouds if is_bag(it, options.format))
     topics = Topics(options.topic, options.pose_topic, options.frame, nearness, bags)
@@ -54,6 +55,17 @@ def _expect_files(names):
             raise Unusable(f"{os.strerror(errno.EISDIR)} (its files are {files})", name)
         if name != "-" and not os.path.exists(name):
             raise Unusable(os.strerror(errno.ENOENT), name)
+
+
+def _refuse_twice(names):
+    """Unusable where one file is two of the clouds, which would count it twice."""
+    taken = {}
+    for name in filter(os.path.isfile, names):
+        status = os.stat(name)
+        first = taken.setdefault((status.st_dev, status.st_ino), name)
+        if first is not name:
+            said = "it is given twice" if first == name else f"it is the same file as {first}"
+            raise Unusable(f"{said}, and each cloud counts once", name)
 
 
 def _expect_use(options):

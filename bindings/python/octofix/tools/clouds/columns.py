@@ -19,6 +19,8 @@ def places_of(names, width, asked, holder):
     places = [int(it) - 1 if _is_number(it) else names.index(it) for it in wanted]
     if beyond := [it + 1 for it in places if not 0 <= it < width]:
         raise Unusable(f"there is no column {beyond[0]}: {holder} has {width}")
+    if twice := [it + 1 for it in places if places.count(it) > 1]:
+        raise Unusable(f"x, y and z are three columns, and two of them are {twice[0]} (--columns)")
     return places
 
 

@@ -6,8 +6,8 @@ import warnings
 
 import numpy as np
 
-from ..errors import Unusable
-from ..poses import is_number
+from ..errors import Unusable, on_line
+from ..poses import number_of
 
 
 def table_of(body, columns, first_line, delimiter=None, width=None):
@@ -69,8 +69,8 @@ def _find_fault(body, columns, first_line, delimiter, width):
             continue
         words = words_of(row, delimiter)
         for word, column in (words[it] for it in sorted(columns) if it < len(words)):
-            if not is_number(word):
-                raise Unusable(f"{word[:40]!r} is no number", line=line, column=column)
+            with on_line(line):
+                number_of(word, column)
         many = f"{len(words)} numbers" if len(words) != 1 else "1 number"
         if len(words) <= max(columns):
             said = f"the line has {many}, and {max(columns) + 1} are needed"

@@ -5,7 +5,7 @@ from dataclasses import dataclass, field
 
 from ..errors import Unusable, on_line
 from ..kinds import cut_of
-from ..poses import is_number
+from ..poses import is_number, refuse_commas
 from .cloud import Cloud, only
 from .columns import AXES, places_of
 from .tables import table_of, words_of
@@ -80,6 +80,9 @@ def _front_of(content):
             raise Unusable("the line has more than 2^16 bytes", line=front.lines + 1)
         row = content[front.length : end].decode("utf-8", "replace").rstrip()
         plain = COMMENT.sub("", row, count=1) if COMMENT.match(row) else row
+        if plain == row:
+            with on_line(front.lines + 1):
+                refuse_commas(row)
         front.delimiter = next((it for it in ";," if it in plain), None)
         words = [it.strip("\"'").lower() for it, _ in words_of(plain, front.delimiter)]
         found = _Heading(front.lines + 1, row, words)
