@@ -136,11 +136,12 @@ def turn(word):
         raise argparse.ArgumentTypeError(str(why)) from None
 
 
-def add_scans(parser):
-    """The options of how clouds are read and placed."""
-    parser.add_argument(
+def add_scans(parser, is_optional=False):
+    """The options of how clouds are read and placed; optional are the clouds."""
+    clouds = parser.add_argument(
         "clouds", nargs="+", type=Input, metavar="CLOUD", help="files; - is the input"
     )
+    clouds.required = not is_optional
     form = parser.add_argument_group("how clouds are read")
     form.add_argument("--format", choices=[*FORMS], help="where the file doesn't show it")
     form.add_argument(

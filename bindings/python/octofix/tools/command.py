@@ -14,7 +14,7 @@ from .progress import say
 
 COMMANDS = (
     "map", "merge", "info", "points", "grid", "view", "compare", "crop", "shift", "coarsen",
-    "check", "example",
+    "check", "tiles", "example",
 )  # fmt: skip
 # What Python says of that.
 NO_THREAD = "can't start new thread"
@@ -46,17 +46,23 @@ def parser():
     top.add_argument("--version", action="version", version=f"octofix {__version__}")
     below = top.add_subparsers(dest="command", metavar="COMMAND", required=True)
     for name in COMMANDS:
-        module = importlib.import_module(f".commands.{name}", __package__)
-        each = below.add_parser(
-            name, help=module.HELP, description=module.__doc__, epilog=STATUSES,
-            formatter_class=argparse.RawDescriptionHelpFormatter,
-        )  # fmt: skip
-        each.register("action", None, LastOne)
-        # (else only -1 and -0.1 are numbers, and -1e-3 is an option)
-        each._negative_number_matcher = re.compile(r"-\.?[0-9]")
-        module.arguments(each)
-        each.set_defaults(run=module.run, repeated=[], foremost=[], is_behind=False)
+        add_command(below, name, importlib.import_module(f".commands.{name}", __package__))
     return top
+
+
+def add_command(below, name, module):
+    """Adds a subcommand that a module has: HELP, its text, what takes its words, and what runs it;
+    one that has commands below itself has nothing to run."""
+    each = below.add_parser(
+        name, help=module.HELP, description=module.__doc__, epilog=STATUSES,
+        formatter_class=argparse.RawDescriptionHelpFormatter,
+    )  # fmt: skip
+    each.register("action", None, LastOne)
+    # (else only -1 and -0.1 are numbers, and -1e-3 is an option)
+    each._negative_number_matcher = re.compile(r"-\.?[0-9]")
+    module.arguments(each)
+    run = getattr(module, "run", None)
+    each.set_defaults(run=run, repeated=[], foremost=[], is_behind=False)
 
 
 def run():

@@ -7,6 +7,7 @@ from .errors import MissingLibrary
 # The packages that have them.
 PACKAGES = {
     "PIL.Image": "in Debian python3-pil",
+    "distributed": "in Debian python3-distributed",
     "laspy": "on PyPI laspy[lazrs]",
     "rosbag": "in Debian python3-rosbag",
     "scipy.spatial": "in Debian python3-scipy",

@@ -1,16 +1,34 @@
 """How far a long run is, on standard error. Where that is closed, nothing is said."""
 
 import contextlib
+import contextvars
 import sys
 import time
 
 from .optional import wanted
 
+_KEPT = contextvars.ContextVar("kept", default=None)
+
 
 def say(text):
     """Says it in one line, whatever stands in names of files and in words of theirs."""
     shown = "".join(it if it.isprintable() else ascii(it)[1:-1] for it in text)
-    _write(f"octofix: {shown}\n")
+    kept = _KEPT.get()
+    if kept is None:
+        _write(f"octofix: {shown}\n")
+    else:
+        kept.append(shown)
+
+
+@contextlib.contextmanager
+def kept():
+    """A list of what is said within this, which nobody hears."""
+    lines = []
+    before = _KEPT.set(lines)
+    try:
+        yield lines
+    finally:
+        _KEPT.reset(before)
 
 
 def is_terminal():
@@ -22,6 +40,22 @@ def _write(text):
     with contextlib.suppress(OSError):
         if sys.stderr is not None:
             print(text, end="", file=sys.stderr, flush=True)
+
+
+class Steps:
+    """How many tasks of each kind are done, in a line that is written over."""
+
+    def __init__(self, is_shown):
+        self.is_shown, self.told = is_shown, time.monotonic()
+
+    def show(self, what, done, total):
+        if self.is_shown and (done == total or time.monotonic() - self.told > 0.5):
+            self.told = time.monotonic()
+            _write(f"\r{what}: {done} of {total}   ")
+
+    def close(self):
+        if self.is_shown:
+            _write("\r" + " " * 40 + "\r")
 
 
 class Progress:

@@ -94,7 +94,7 @@ def sample(scan, edge, reach, weight=1):
     count = len(scan.points)
     # (steps of the golden ratio, which keep no time with the rings of a lidar)
     picked = np.arange(min(count, BEAMS)) * (int(0.618 * count) | 1) % max(count, 1)
-    beams = _cut_off(scan.points[picked], reach)
+    beams = cut_off(scan.points[picked], reach)
     parts = np.arange(PLACES)[:, None]
     voxels = (beams[:, None] * parts // (PLACES - 1) + scan.origin) // edge
     walked = np.abs(beams).sum(axis=1) // edge + 1
@@ -105,7 +105,7 @@ def sample(scan, edge, reach, weight=1):
 def near(scan, region, edge, reach):
     """Which beams of a scan come nearer to a region than a voxel's edge, by which they may be
     rounded: no other one goes through a voxel of it. (n,) truth values."""
-    beams = _cut_off(scan.points, reach).astype(float)
+    beams = cut_off(scan.points, reach).astype(float)
     low = np.subtract(region.low, 1) * edge - scan.origin
     high = np.add(region.high, 2) * edge - scan.origin
     # (a beam of no length on an axis is beside the region there, or has infinite bounds)
@@ -115,7 +115,7 @@ def near(scan, region, edge, reach):
     return enters <= np.maximum(one, other).min(axis=1, initial=1)
 
 
-def _cut_off(beams, reach):
+def cut_off(beams, reach):
     """Beams that are no longer than the range."""
     if reach is None:
         return beams

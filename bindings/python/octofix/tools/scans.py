@@ -88,15 +88,20 @@ class Scans:
         return self.reading.form not in forms and not any(map(is_many.search, self.names))
 
     def __iter__(self):
-        for name in self.names:
+        yield from self.of_files(0, len(self.names))
+        if self.trajectory is not None and not self.skips.count:
+            self.trajectory.check(self.clouds)
+
+    def of_files(self, first, last):
+        """The scans of files by their numbers. The first one's first cloud has the number that
+        `clouds` says, by which it has its pose."""
+        for name in self.names[first:last]:
             try:
                 # (no name is kept for a cloud, so that it goes when its scan is made)
                 yield from filter(None, map(self._scan_of, clouds_in(name, self.reading)))
             except Unusable as why:
                 self.clouds += 1
                 self.skips.judge(why)
-        if self.trajectory is not None and not self.skips.count:
-            self.trajectory.check(self.clouds)
 
     def spread(self, most):
         """About so many scans from all over the clouds, each after how many it stands for. They are

@@ -52,26 +52,38 @@ def arguments(parser):
 
 
 def run(options):
-    form_of(options.output)
-    beside = Output(os.path.splitext(options.output)[0] + ".yaml")
-    refuse_clashes(options, beside)
-    _refuse_other_yaml(beside)
-    image = text_of(os.path.basename(options.output))
+    beside = yaml_beside(options)
     with read_map(options.map) as world:
         resolution = world.resolution_nm
         low, high = box_for(world.bounds(), resolution, options.area, options.height)
         plane = planes.band_of(world, low, high)
+    write_grid(options.output, beside, plane, low, resolution, options.frontier)
+    return DONE
+
+
+def yaml_beside(options):
+    """The YAML's name, beside that of the picture; refused where something else stands there."""
+    form_of(options.output)
+    beside = Output(os.path.splitext(options.output)[0] + ".yaml")
+    refuse_clashes(options, beside)
+    _refuse_other_yaml(beside)
+    return beside
+
+
+def write_grid(name, beside, plane, low, resolution, frontier=None):
+    """Writes the picture of a plane of classes, whose lower left cell has the key `low`, its YAML,
+    and where a file is named its frontier."""
+    image = text_of(os.path.basename(name))
     greys = np.array([GREYS[it] for it in (UNKNOWN, FREE, OCCUPIED)], np.uint8)
-    contents = {options.output: picture(options.output, greys[plane[::-1]])}
+    contents = {name: picture(name, greys[plane[::-1]])}
     contents[beside] = yaml_of(image, low, resolution).encode()
-    if options.frontier:
-        contents[options.frontier] = frontier_file(plane, low, resolution)
+    if frontier:
+        contents[frontier] = frontier_file(plane, low, resolution)
     with written(*contents) as files:
         for file, content in zip(files, contents.values()):
             file.write(content)
     counted = ", ".join(f"{(plane == it).sum()} {name}" for it, name in _named())
     say(f"{plane.shape[1]} x {plane.shape[0]} cells: {counted}")
-    return DONE
 
 
 def _refuse_other_yaml(name):

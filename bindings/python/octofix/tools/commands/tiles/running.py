@@ -1,0 +1,137 @@
+"""Runs by words of the command line."""
+
+import contextlib
+import os
+
+from octofix.tiles import engines, runs, steps
+from octofix.tiles import folder as files
+
+from ...arguments import add_scans, region, whole
+from ...errors import DONE, SKIPPED, Unusable
+from ...progress import Steps, is_terminal, say
+
+KEPT = ": what is done is kept, and the same command goes on with it"
+STEPS = {"part": "pieces of clouds that are parted", "build": "tiles that are made"}
+
+
+def add_folder(parser, said="of the tiles"):
+    parser.add_argument("folder", metavar="FOLDER", help=said)
+
+
+def corners_of(box):
+    """The corners of a box that six numbers in metres gave; nothing without."""
+    if not box:
+        return []
+    if any(low > high for low, high in zip(box[:3], box[3:])):
+        raise Unusable("the box has a first corner that lies beyond the second (--box)")
+    return [box[:3], box[3:]]
+
+
+def refuse_inside(folder, *names):
+    """Refuses to write into the folder of tiles."""
+    for name in names:
+        place = os.path.realpath(name)
+        if os.path.commonpath([place, os.path.realpath(folder)]) == os.path.realpath(folder):
+            raise Unusable("it would be written among the files of the tiles", name)
+
+
+def expect_tiles(folder):
+    if not os.path.isdir(folder):
+        raise Unusable("there are no tiles", folder)
+
+
+def add_run(parser):
+    """The folder, the clouds, and who does the work."""
+    add_folder(parser)
+    add_scans(parser, is_optional=True)
+    who = parser.add_argument_group("several cores, several machines").add_mutually_exclusive_group()
+    who.add_argument(
+        "--jobs", type=whole(0, 256), default=1, metavar="N",
+        help="so many processes of this machine; 0 takes as many as there are cores (1)",
+    )  # fmt: skip
+    who.add_argument(
+        "--scheduler", metavar="ADDRESS",
+        help="the workers of a scheduler of Dask, as tcp://head:8786, which see the folder and the "
+        "clouds under the same names",
+    )  # fmt: skip
+    who.add_argument(
+        "--part", type=region, metavar="K/N", help="part the Kth of N shares of the clouds alone"
+    )
+    who.add_argument(
+        "--build", type=region, metavar="K/N", help="make the Kth of N shares of the tiles alone"
+    )
+
+
+def do(options, settings):
+    """Does what the words ask for, and answers the status; `settings` are those of new tiles."""
+    folder = options.folder
+    is_alone = not (options.part or options.build)
+    if options.clouds and settings:
+        os.makedirs(folder, exist_ok=True)
+    expect_tiles(folder)
+    try:
+        with files.writing(folder) if is_alone else contextlib.nullcontext():
+            run = _begun(options, settings)
+            return DONE if run is None else _do(options, run)
+    except KeyboardInterrupt:
+        raise KeyboardInterrupt(KEPT) from None
+
+
+def _begun(options, settings):
+    """The run that is to be done, or None."""
+    folder = options.folder
+    if options.clouds:
+        run = steps.begin(folder, options, settings, getattr(options, "again", False))
+        said = "the tiles have these clouds already"
+    else:
+        run, said = steps.resume(folder), "no run is begun"
+        if run is None and files.read_index(folder) is None:
+            raise Unusable("no clouds are given, and no run is begun", folder)
+    if run is None and not options.quiet:
+        say(f"{folder}: {said}: there is nothing to be done")
+    return run
+
+
+def _do(options, run):
+    folder, shown = options.folder, Steps(is_terminal() and not options.quiet)
+
+    def told(what, job, done, count, total):
+        shown.show(STEPS[what], count, total)
+        for line in done.get("said", ()):
+            say(line)
+
+    here = engines.Engine(engines.Here())
+    try:
+        if options.part:
+            jobs = runs.share(steps.chunks(folder, run), *options.part)
+            engines.each(here, steps.part, folder, run, jobs, told)
+            return DONE
+        if options.build:
+            jobs = runs.share(steps.gathered(folder, run)["slices"], *options.build)
+            engines.each(here, steps.build, folder, run, jobs, told)
+            return DONE
+        with engines.closing(_engine(options)) as engine:
+            found = runs.do(folder, run, engine, told)
+    finally:
+        shown.close()
+    if not options.quiet:
+        say("; ".join(_closing_words(found)))
+    return SKIPPED if found["skipped"] or found["gaps"] else DONE
+
+
+def _engine(options):
+    if options.scheduler:
+        return engines.Scheduler(options.scheduler)
+    jobs = options.jobs or len(os.sched_getaffinity(0))
+    return engines.Processes(jobs) if jobs > 1 else engines.Engine(engines.Here())
+
+
+def _closing_words(told):
+    left = told["left"]
+    yield f"{told['scans']} scans of {told['points']} points in {told['tiles']} tiles"
+    if told["skipped"]:
+        yield f"skipped {told['skipped']}"
+    if told["gaps"]:
+        yield f"{told['gaps']} gaps without a pose"
+    if any(left.get(it) for it in ("endless", "far", "chosen")):
+        yield "left out " + ", ".join(f"{many} points ({it})" for it, many in left.items() if many)

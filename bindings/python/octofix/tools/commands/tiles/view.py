@@ -1,0 +1,51 @@
+"""Makes a page that shows tiles in a browser: those of a box, or all by greater blocks.
+
+    octofix tiles view town --box 0 -20 -1 60 20 5 -o street.html
+    octofix tiles view town --depth 3 -o town.html
+
+Where nothing is said the blocks are as small as a page has room for. Pictures are made by 'octofix
+view' of what 'octofix tiles crop' writes.
+"""
+
+import os
+
+from octofix.tiles import Tiles
+
+from ...arguments import Output, add_box, add_output, whole
+from ...errors import DONE, Unusable
+from ...files import write
+from ...page import page
+from ...progress import say
+from ..view import PAGES
+from .blocks import blocks_of
+from .running import add_folder, corners_of, refuse_inside
+
+HELP = "a page for a browser"
+
+
+def arguments(parser):
+    add_folder(parser)
+    add_box(parser)
+    parser.add_argument(
+        "--depth", type=whole(0, 14), default=0, metavar="N",
+        help="blocks of 2^N voxels an edge at least (0)",
+    )  # fmt: skip
+    add_output(parser, "the page, .html", of=Output)
+
+
+def run(options):
+    refuse_inside(options.folder, options.output)
+    if not options.output.lower().endswith(PAGES):
+        raise Unusable("a page's name ends in .html", options.output)
+    with Tiles(options.folder) as tiles:
+        found = blocks_of(tiles, corners_of(options.box), options.depth)
+    if not len(found.leaves):
+        raise Unusable("nothing is known there")
+    name = os.path.basename(os.path.abspath(options.folder))
+    write(options.output, page(found.leaves, name))
+    if found.depth:
+        say(f"blocks of {1 << found.depth} voxels an edge are shown")
+    if found.moved.any():
+        moved = " ".join(f"{it:.10g}" for it in found.moved)
+        say(f"the page is moved: its origin lies at {moved} m")
+    return DONE
