@@ -84,7 +84,7 @@ def options(command):
 
 def page(commands, statuses, date):
     lines = [HEAD.lstrip("\n").format(date=date)]
-    for it in commands:
+    for it in (it for it in commands if " " not in it.name):
         lines += [f".It Cm {it.name}", escaped(it.help)]
     lines += [".El", ".Sh COMMANDS"]
     for it in commands:

@@ -30,7 +30,8 @@ class Option:
 
 @dataclass
 class Command:
-    """A subcommand: what it says of itself, and its options by groups, a title each."""
+    """A subcommand, with those above it in its name: what it says of itself, and its options by
+    groups, a title each."""
 
     name: str
     help: str
@@ -41,21 +42,23 @@ class Command:
         return [it for _, group in self.groups for it in group]
 
 
-def commands_of(top):
-    """The commands of a parser with subcommands."""
-    (below,) = [it for it in top._actions if isinstance(it, argparse._SubParsersAction)]
-    helps = {it.dest: it.help or "" for it in below._choices_actions}
+def commands_of(top, before=""):
+    """The commands of a parser with subcommands, each before those below it."""
+    below = [it for it in top._actions if isinstance(it, argparse._SubParsersAction)]
+    helps = {it.dest: it.help or "" for each in below for it in each._choices_actions}
     found = []
-    for name, parser in below.choices.items():
+    for name, parser in ((it, parser) for each in below for it, parser in each.choices.items()):
         groups = [(title_of(it), options_of(it)) for it in parser._action_groups]
         groups = [it for it in groups if it[1]]
-        found.append(Command(name, helps.get(name, ""), parser.description.strip(), groups))
+        text = parser.description.strip()
+        found.append(Command(before + name, helps.get(name, ""), text, groups))
+        found += commands_of(parser, f"{before}{name} ")
     return found
 
 
 def options_of(group):
     shown = [it for it in group._group_actions if it.help != argparse.SUPPRESS]
-    return [Option.of(it) for it in shown]
+    return [Option.of(it) for it in shown if not isinstance(it, argparse._SubParsersAction)]
 
 
 def title_of(group):

@@ -76,8 +76,7 @@ def abandon(folder: str | os.PathLike[str]) -> None:
 
 def _do(folder, words, executor, settings, is_again=False) -> Tiles:
     options = plans.options_of(words)
-    os.makedirs(folder, exist_ok=True)
-    with _files.writing(folder):
+    with _files.made(folder), _files.writing(folder):
         run = steps.begin(folder, options, settings, is_again)
         if run is not None:
             runs.do(folder, run, engines.Engine(executor or engines.Here()))

@@ -173,6 +173,19 @@ def sweep_tiles(folder: str, kept: set[str]) -> None:
 
 
 @contextlib.contextmanager
+def made(folder: str) -> Iterator[None]:
+    """A folder of tiles, which is made where it isn't there, and is gone again where nothing was
+    begun in it."""
+    is_new = not os.path.isdir(folder)
+    os.makedirs(folder, exist_ok=True)
+    try:
+        yield
+    finally:
+        if is_new and not {INDEX, BEGUN} & {*os.listdir(folder)}:
+            shutil.rmtree(folder, ignore_errors=True)
+
+
+@contextlib.contextmanager
 def writing(folder: str) -> Iterator[None]:
     """One writer at a time, on all machines that have the folder. A lock is gone with its
     process."""

@@ -14,7 +14,7 @@ import zlib
 from typing import Any, Iterable, Iterator
 
 import octofix
-from octofix import Map
+from octofix import Map, Refused
 from octofix.tools.errors import Torn, Unusable
 from octofix.tools.mapping import Mapper
 from octofix.tools.progress import kept
@@ -317,7 +317,10 @@ def _fill(world: Map, folder: str, plan: Plan, name: str, told: Told) -> None:
     tile, lattice = tile_of(name), Settings.of(plan.settings).lattice()
     index = files.read_index(folder)
     if index and name in index["tiles"]:
-        world.load_snapshot(files.read_tile(folder, tile, index["tiles"][name]))
+        try:
+            world.load_snapshot(files.read_tile(folder, tile, index["tiles"][name]))
+        except Refused:
+            raise _full(plan, name) from None
     world.limit(*lattice.window())
     mapper = Mapper(world, plan.reach)
     shift = lattice.shift(tile) * lattice.edge

@@ -349,8 +349,7 @@ def create(
     BadTiles where there are tiles already; ValueError for another edge; Refused as by a Map.
     """
     folder, settings = os.fspath(folder), settings_of(res, edge, max_groups, **odds)
-    os.makedirs(folder, exist_ok=True)
-    with files.writing(folder):
+    with files.made(folder), files.writing(folder):
         if files.read_index(folder) is not None:
             raise BadTiles("there are tiles already", folder)
         files.write_index(folder, steps.new_index(settings))

@@ -65,12 +65,14 @@ def add_run(parser):
 def do(options, settings):
     """Does what the words ask for, and answers the status; `settings` are those of new tiles."""
     folder = options.folder
-    is_alone = not (options.part or options.build)
-    if options.clouds and settings:
-        os.makedirs(folder, exist_ok=True)
-    expect_tiles(folder)
+    is_alone, is_new = not (options.part or options.build), bool(options.clouds and settings)
+    if not is_new:
+        expect_tiles(folder)
     try:
-        with files.writing(folder) if is_alone else contextlib.nullcontext():
+        with contextlib.ExitStack() as stack:
+            stack.enter_context(files.made(folder))
+            if is_alone:
+                stack.enter_context(files.writing(folder))
             run = _begun(options, settings)
             return DONE if run is None else _do(options, run)
     except KeyboardInterrupt:
