@@ -4,9 +4,8 @@ opening, a picture, a cut and a click take.
 
     OCTOFIX_LIBRARY=FILE bench/page.py MAP [PICTURE.png]
 
-PICTURE is what is seen then, as in README.md. Needs numpy, Pillow, and Chromium with its driver and
-Selenium (in Debian chromium, chromium-driver and python3-selenium). Without a graphics processor a
-picture takes far longer than with one.
+PICTURE is what is seen then, as in README.md. Needs numpy, Pillow and Debian's chromium. Without a
+graphics processor a picture takes far longer than with one.
 """
 import io
 import sys

@@ -216,7 +216,7 @@ class Page(InBrowser):
     def faces(self, kind, *behind):
         """How many faces of voxels are drawn of a class, where one of these lies behind."""
         scripts = "".join(page._script(it) for it in ("tree", "faces"))
-        return self.window.driver.execute_script(f"""{scripts}
+        return self.window.run(f"""{scripts}
             let sum = 0;
             for (const list of findFaces(viewer.tree, {kind}, {list(behind)}))
               for (let at = 3; at < 4 * list.length; at += 4) sum += 4 ** list.numbers[at];
