@@ -10,15 +10,15 @@ fail() {
 }
 
 # Where a crate's program or library is kept, proved or unproved, with what its build said and a
-# file as old as the start of that build.
+# file as old as the start of that build; beside a library the module that it was compiled from.
 choose() {
     crate=$1
     how=$2
     place=$root/crates/$crate/out
     [ "$how" = proved ] || place=$place/unproved
     case $crate in
-    octofix) made=$place/liboctofix.a ;;
-    *) made=$place/$crate ;;
+    octofix) made=$place/liboctofix.a module=$place/octofix.ir ;;
+    *) made=$place/$crate module=$place/$crate ;;
     esac
     stamp=$place/launcher.stamp
     log=$place/launcher.log
@@ -29,7 +29,8 @@ newer_sources() (
 )
 
 is_built() {
-    [ -f "$made" ] && [ -f "$stamp" ] && newer=$(newer_sources) && [ -z "$newer" ]
+    [ -f "$made" ] && [ -f "$module" ] && [ -f "$stamp" ] && newer=$(newer_sources) &&
+        [ -z "$newer" ]
 }
 
 # Fails where OCTOMAP_JOBS is set and no number from 1 on.
@@ -69,7 +70,7 @@ build_unproved() {
 
 # Only the built file says that there was a build.
 build() {
-    rm -f -- "$made" "$stamp" && mkdir -p -- "$place" || return
+    rm -f -- "$made" "$module" "$stamp" && mkdir -p -- "$place" || return
     : >"$stamp.new" && : >"$log" || return
     "build_$how"
     [ -f "$made" ] && mv -- "$stamp.new" "$stamp"
@@ -89,4 +90,19 @@ ensure_built() {
     flock -n 9 || { say "waiting for another octomap to build $crate" && flock 9; } || exit 9
     is_built || build || fail "$crate can't be built; the last lines of $log say why"
     exec 9<&-
+}
+
+is_web_built() {
+    [ -f "$web" ] && newer=$(find "$module" "$root/bindings/web/host.c" \
+        "$root/tools/build/wasm.py" -newer "$web") && [ -z "$newer" ]
+}
+
+# The library, and made of its module the one for browsers and Node, octofix.wasm beside it.
+ensure_web() {
+    ensure_built octofix "$1"
+    web=$place/octofix.wasm
+    is_web_built && return
+    say 'the library is compiled for browsers and Node now'
+    run_script wasm.py "$module" "$web" >"$log.web" 2>&1 ||
+        fail "$web can't be made; the last lines of $log.web say why"
 }

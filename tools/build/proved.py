@@ -7,8 +7,8 @@ As many crates as there are jobs are proved side by side, where they don't stand
 first those with the heaviest chain of crates above them. While there are enough of them each has
 one job, since with several it takes a quarter more of the processors; where there are fewer, each
 has up to four. What the kit says goes to LOG, and standard error has a line for each crate that is
-done. Ends with 0 where all is proved and CRATE is built, as out/CRATE, or out/libCRATE.a of a
-static library.
+done. Ends with 0 where all is proved and CRATE is built, as out/CRATE, or of a static library as
+out/libCRATE.a, beside out/CRATE.ir, the LLVM module that the kit compiled it from.
 
 A library is built as `rt verdict` builds it: from nothing, and with its statements alone, without
 their proofs. That is a third of what `rt lib` writes, and a crate reads those of all crates below.
@@ -28,15 +28,22 @@ import subprocess
 import sys
 import time
 from concurrent.futures import FIRST_COMPLETED, ThreadPoolExecutor, wait
+from pathlib import Path
 
 import crates
 import ending
-from unproved import TARGET, kit_folder
+from unproved import TARGET, kit_folder, make_keeper, put
 
 PLACE = crates.ROOT / "crates/octomap_cli/out/rlib"
 MOST_JOBS = 4
 # The share of a crate's time that is left of it with so many jobs.
 WITH_JOBS = 0.4
+# A clang that keeps the module which the kit has it compile, in the folder of the toolchain.
+KEEPER = """#!/bin/sh
+kept=$(dirname -- "$(dirname -- "$0")")
+[ ! -f module.bc ] || cp -- module.bc "$kept/module.bc" || exit
+exec "$(dirname -- "$0")/kit-clang" "$@"
+"""
 # What reading a byte of the crates below costs, where proving one of its own costs 1.
 READING = 0.006
 
@@ -117,12 +124,29 @@ class Work:
         if crate.makes_rlib():
             words += ["--statements"] * ("--statements" in known) + ["-o", crate.rlib]
         else:
-            words += ["--toolchain", f"{self.kit.KIT}/toolchain"]
             words += ["--backend", "llvm"] * ("--backend" in known)
             words += ["-o", f"out/lib{name}.a" if crate.is_static else f"out/{name}.o"]
-        status = self.call(name, [self.kit.RATTLE, "build", *words])
+        status = self.compile(name, [self.kit.RATTLE, "build", *words])
         if status == -signal.SIGKILL and jobs > 1:
             return self.prove(name, 1)
+        return status
+
+    def compile(self, name, words):
+        """Has the kit do this, with its toolchain where code is made, and keeps the module of a
+        static library."""
+        crate, kit = self.crates[name], Path(self.kit.KIT)
+        if crate.makes_rlib():
+            return self.call(name, words)
+        if not crate.is_static:
+            return self.call(name, [*words, "--toolchain", kit / "toolchain"])
+        # (a Ctrl-C, which ends this at once, may leave it for the next start)
+        room = Path(crate.folder, "out/toolchain")
+        shutil.rmtree(room, ignore_errors=True)
+        make_keeper(kit, room, KEEPER)
+        status = self.call(name, [*words, "--toolchain", room])
+        if not status:
+            put(room / "module.bc", Path(crate.folder, f"out/{name}.ir"))
+        shutil.rmtree(room)
         return status
 
     def link(self, name):

@@ -2,7 +2,7 @@
 # repository.
 #
 #     --program FILE      a built octomap
-#     --library FOLDER    the folder of liboctofix.a and liboctofix.so.1
+#     --library FOLDER    the folder of liboctofix.a, liboctofix.so.1 and octofix.wasm
 #
 # in any order. What isn't given is built (see tools/check/built).
 

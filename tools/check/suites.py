@@ -12,7 +12,7 @@ class Suite:
     all is as it should be.
 
     Of its words `program` stands for `--program FILE` of a built octomap, `library` for `--library
-    FOLDER` of liboctofix.a and liboctofix.so.1, `proved` for `--proved` where these are proved.
+    FOLDER` of liboctofix.a, liboctofix.so.1 and octofix.wasm, `proved` for `--proved` where these are proved.
     What the suite leaves out for want of something it says in lines `left out: N WHAT`.
     """
 
@@ -61,6 +61,8 @@ SUITES = (
     Suite("python", "the library from Python", "bindings/python/check program library", 60),
     Suite("tools", "the tools of the package", "bindings/python/check_tools program library", 90,
           loopback=True),
+    Suite("web", "the library in browsers and Node, and its page", "bindings/web/check library",
+          120, needs="chromium or Node 20", loopback=True),
     Suite("ros", "the node for ROS", "examples/ros/check library", 30, needs="ROS 1",
           loopback=True),
     Suite("planning", "examples with FCL, OMPL and dynamicEDT3D",
