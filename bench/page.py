@@ -22,7 +22,7 @@ from PIL import Image  # noqa: E402
 from octofix.tools.command import main as octofix  # noqa: E402
 
 SIZE, COLOURS = (860, 480), 128
-MANY = "viewer.painter.solid.runs.reduce((sum, it) => sum + it.many, 0)"
+MANY = "viewer.painter.solid.all[0].runs.reduce((sum, it) => sum + it.many, 0)"
 PICTURE = "viewer.painter.time(viewer.camera)"
 CUT = "viewer.cut('high', viewer.slice.high - 1)"
 CLICK = "viewer.pick(viewer.canvas.clientWidth / 2, viewer.canvas.clientHeight / 2)"

@@ -12,6 +12,7 @@ from running import octofix
 
 from octofix import Event, Map
 from octofix.tools import page
+from octofix.tools.bundle import script_of
 
 VIOLET, YELLOW, WHITE = (68, 1, 84), (253, 231, 37), (255, 255, 255)
 MARKED = (255, 26, 77)
@@ -215,7 +216,7 @@ class Page(InBrowser):
 
     def faces(self, kind, *behind):
         """How many faces of voxels are drawn of a class, where one of these lies behind."""
-        scripts = "".join(page._script(it) for it in ("tree", "faces"))
+        scripts = script_of(page.FOLDER / f"{it}.js" for it in ("tree", "faces"))
         return self.window.run(f"""{scripts}
             let sum = 0;
             for (const list of findFaces(viewer.tree, {kind}, {list(behind)}))

@@ -14,6 +14,7 @@ from pathlib import Path
 import numpy as np
 
 from . import colours, oblique
+from .bundle import script_of
 from .leaves import FREE, OCCUPIED, ORIGIN, VOXELS, greatest_values
 from .lengths import metres
 
@@ -22,10 +23,9 @@ MOST_LEAVES = 1 << 22
 FOLDER = Path(__file__).with_name("viewer")
 # In an order in which each stands behind what it uses.
 SCRIPTS = (
-    "tree", "faces", "shaders", "camera", "casting", "painter", "telling", "panel", "hands",
-    "address", "main",
+    "tree", "faces", "supply", "shaders", "camera", "casting", "painter", "telling", "panel",
+    "hands", "address", "viewer", "main",
 )  # fmt: skip
-_LEFT_OUT = re.compile(r"^(import [^;]*;\n|export | *//.*\n| +|\n)", re.MULTILINE)
 
 
 def page(leaves, name, values=None):
@@ -39,7 +39,7 @@ def page(leaves, name, values=None):
         "MAP": json.dumps(_about(leaves)),
         "TREE": _packed(words_of(leaves)),
         "VALUES": "" if values is None else _packed(_planes(leaves, values)),
-        "SCRIPT": "".join(_script(it) for it in SCRIPTS),
+        "SCRIPT": script_of(FOLDER / f"{it}.js" for it in SCRIPTS),
     }
     # (at once, so that nothing that is put in is looked at again)
     return re.sub("@([A-Z]+)@", lambda it: words[it[1]], _part("page.html")).encode()
@@ -104,9 +104,3 @@ def _counts(leaves):
 
 def _part(name):
     return (FOLDER / name).read_text(encoding="utf-8")
-
-
-def _script(name):
-    """A module as a part of one script, where what others export is there; without lines of
-    comments and what begins a line, which the browser doesn't need."""
-    return _LEFT_OUT.sub("", _part(f"{name}.js"))

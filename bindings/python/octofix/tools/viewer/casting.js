@@ -18,7 +18,7 @@ export function cast(tree, {start, way}, {low, high}, isWanted) {
 }
 
 // From where to where a way is in a box.
-function spanIn(start, way, low, high) {
+export function spanIn(start, way, low, high) {
   let enter = 0, leave = Infinity;
   for (let axis = 0; axis < 3; axis++) {
     const a = (low[axis] - start[axis]) / way[axis], b = (high[axis] - start[axis]) / way[axis];

@@ -29,10 +29,29 @@ export class Squares {
 export const SIDES = [0, 1, 2, 3, 4, 5];
 
 // The faces of all blocks of a class behind which one of these classes lies: a list for each side.
-export function findFaces(tree, kind, behind) {
+// Of some places of the tree alone, where they are given (see `placesOf`).
+export function findFaces(tree, kind, behind, places = placesOf(tree, 1)) {
   const finder = new FaceFinder(tree, kind, behind);
-  if (tree.nodes.length) finder.walk(0, LARGEST, 0, 0, 0);
+  for (const it of places) finder.visit(...it);
   return finder.faces;
+}
+
+// The places of a tree at a depth that has at least so many, or its last one: of each its group, its
+// part, its edge and its lowest corner. Together they hold all.
+export function placesOf(tree, least) {
+  const parts = (group, size, x, y, z) => [0, 1, 2, 3, 4, 5, 6, 7].map(it => [
+    group, it, size, it & 1 ? x + size : x, it & 2 ? y + size : y, it & 4 ? z + size : z]);
+  let found = tree.nodes.length ? parts(0, LARGEST, 0, 0, 0) : [], isDone = false;
+  while (found.length < least && !isDone) {
+    isDone = true;
+    found = found.flatMap(place => {
+      const [group, part, size, ...corner] = place, node = tree.part(group, part);
+      if (!isParted(node)) return classOf(node) ? [place] : [];
+      isDone = false;
+      return parts(numberOf(node), size / 2, ...corner);
+    });
+  }
+  return found;
 }
 
 class FaceFinder {
@@ -43,15 +62,18 @@ class FaceFinder {
     this.faces = SIDES.map(() => new Squares());
   }
 
+  visit(group, part, size, x, y, z) {
+    const node = this.tree.part(group, part);
+    if (isParted(node)) this.walk(numberOf(node), size / 2, x, y, z);
+    else if (classOf(node) === this.kind)
+      for (const side of SIDES)
+        this.addFaces(side, this.beside(group, part, side, size, x, y, z), x, y, z, size);
+  }
+
   walk(group, size, x, y, z) {
-    for (let part = 0; part < 8; part++) {
-      const node = this.tree.part(group, part);
-      const a = part & 1 ? x + size : x, b = part & 2 ? y + size : y, c = part & 4 ? z + size : z;
-      if (isParted(node)) this.walk(numberOf(node), size / 2, a, b, c);
-      else if (classOf(node) === this.kind)
-        for (const side of SIDES)
-          this.addFaces(side, this.beside(group, part, side, size, a, b, c), a, b, c, size);
-    }
+    for (let part = 0; part < 8; part++)
+      this.visit(group, part, size,
+        part & 1 ? x + size : x, part & 2 ? y + size : y, part & 4 ? z + size : z);
   }
 
   // What lies behind a side of a block: a part of the same group, or what is found from the root.

@@ -1,8 +1,8 @@
 // Draws the map.
 
 import {FREE, OCCUPIED, UNKNOWN} from "./tree.js";
-import {SIDES, Squares, findFaces, layerOf} from "./faces.js";
-import {Stored, useProgram} from "./shaders.js";
+import {SIDES, Squares} from "./faces.js";
+import {Parts, Stored, useProgram} from "./shaders.js";
 
 // Red, green, blue, and how much is covered; a last number of 0 is for the colour of the height.
 const BY_HEIGHT = [0, 0, 0, 0], FRONTIER = [0.94, 0.58, 0.17, 0.3], MARK = [1, 0.1, 0.3, 1];
@@ -13,7 +13,8 @@ const NOWHERE = 1e6;
 const FEW_FACES = 30000;
 
 export class Painter {
-  // map: its tree, low, high and middle in voxels, the heights of what is occupied, and colours.
+  // map: its supply of faces, low, high and middle in voxels, the heights of what is occupied,
+  // colours, and what draws it anew.
   constructor(canvas, map) {
     const gl = canvas.getContext("webgl2", {alpha: false, antialias: true});
     if (!gl) throw Error("this browser has no WebGL 2");
@@ -21,6 +22,7 @@ export class Painter {
     const [up, x, y] = map.brightness;
     this.light = [x, x, y, y, UNDERNEATH, up];
     this.solid = this.store(OCCUPIED, [UNKNOWN, FREE]);
+    this.apart = [];                    // what else is drawn, each in a colour of its own
     this.setUp();
   }
 
@@ -34,8 +36,22 @@ export class Painter {
     gl.uniform3fv(uniforms.heights, map.colours.flat().map(it => it / 255));
   }
 
-  store(kind, behind, tree = this.map.tree) {
-    return new Stored(this.gl, findFaces(tree, kind, behind));
+  // The faces of a class, which may come later, and in parts.
+  store(kind, behind, supply = this.map.supply) {
+    const found = new Parts();
+    supply.faces(kind, behind, it => this.add(found, it));
+    return found;
+  }
+
+  add(parts, lists) {
+    parts.add(new Stored(this.gl, lists));
+    this.map.redraw();
+  }
+
+  // Draws the occupied blocks of another supply too, in a colour.
+  drawApart(supply, [red, green, blue]) {
+    const faces = this.store(OCCUPIED, [UNKNOWN, FREE], supply);
+    this.apart.push({faces, colour: [red / 255, green / 255, blue / 255, 1]});
   }
 
   // Says what is to be drawn from now on: which classes, and from which layer up to which one.
@@ -59,11 +75,10 @@ export class Painter {
   }
 
   cutThrough(kind) {
-    const {tree} = this.map, {low, high} = this.slice;
-    return new Stored(this.gl, [
-      this.isCutBelow ? layerOf(tree, kind, low) : new Squares(),
-      this.isCutAbove ? layerOf(tree, kind, high - 1) : new Squares(),
-    ]);
+    const found = new Parts(), {low, high} = this.slice;
+    const heights = [this.isCutBelow ? low : undefined, this.isCutAbove ? high - 1 : undefined];
+    this.map.supply.layers(kind, heights, it => this.add(found, it));
+    return found;
   }
 
   // Marks one voxel, or none.
@@ -78,12 +93,9 @@ export class Painter {
 
   // Finds blocks that are few enough to be drawn at once, for while the map is turned.
   coarsen() {
-    const {tree} = this.map;
-    for (let depth = tree.ends.length - 1; depth > 0 && !this.coarse; depth--) {
-      const faces = findFaces(tree.coarse(depth), OCCUPIED, [UNKNOWN, FREE]);
-      const many = faces.reduce((sum, it) => sum + it.length, 0);
-      if (many < FEW_FACES || depth === 1) this.coarse = new Stored(this.gl, faces);
-    }
+    this.map.supply.coarse(FEW_FACES, it => {
+      this.coarse = new Stored(this.gl, it);
+    });
   }
 
   // Draws all, or what is occupied alone and in few blocks.
@@ -97,6 +109,7 @@ export class Painter {
     if (shown.occupied) {
       this.paint(isCoarse ? this.coarse : this.solid, BY_HEIGHT);
       this.close(this.cuts.occupied, BY_HEIGHT);
+      for (const {faces, colour} of this.apart) this.paint(faces, colour);
     }
     if (this.marked) this.paintMark();
     this.paintClear(isCoarse);
@@ -181,5 +194,10 @@ export class Painter {
     this.draw(camera, false);
     this.gl.readPixels(0, 0, 1, 1, this.gl.RGBA, this.gl.UNSIGNED_BYTE, new Uint8Array(4));
     return performance.now() - began;
+  }
+
+  // Gives all back that it has of the graphics processor.
+  end() {
+    this.gl.getExtension("WEBGL_lose_context")?.loseContext();
   }
 }

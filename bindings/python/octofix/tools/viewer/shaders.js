@@ -128,3 +128,24 @@ export class Stored {
     this.gl.deleteTexture(this.texture);
   }
 }
+
+// Lists that come in parts, in any number and at any time.
+export class Parts {
+  constructor() {
+    this.all = [];
+  }
+
+  add(stored) {
+    if (this.isFreed) stored.free();
+    else this.all.push(stored);
+  }
+
+  draw(run, uniforms) {
+    for (const it of this.all) it.draw(run, uniforms);
+  }
+
+  free() {
+    this.isFreed = true;
+    for (const it of this.all) it.free();
+  }
+}

@@ -2,7 +2,7 @@
 
 import {ORIGIN, UNKNOWN, classOf} from "./tree.js";
 
-const NAMES = ["unknown", "free", "occupied"];
+export const NAMES = ["unknown", "free", "occupied"];
 
 // Metres as text, of a number of half voxels from the origin. (Both are whole, so that the text is
 // exact.)

@@ -77,7 +77,7 @@ export async function readTree(packedWords, packedValues) {
   return new Tree(nodes, endsOf(nodes), values);
 }
 
-async function unpacked(text) {
+export async function unpacked(text) {
   const packed = Uint8Array.from(atob(text), it => it.charCodeAt(0));
   const stream = new Blob([packed]).stream().pipeThrough(new DecompressionStream("gzip"));
   return new Uint8Array(await new Response(stream).arrayBuffer());

@@ -1,0 +1,294 @@
+"""The page into which maps are dropped, in Chromium: what is seen and told, beside Python."""
+
+import json
+import os
+import subprocess
+import sys
+import tempfile
+import time
+import unittest
+from pathlib import Path
+
+import numpy as np
+
+import engines
+from engines import browser
+from octofix import Event, Map
+from octofix.tools.optional import wanted
+
+COMMAND = [sys.executable, "-m", "octofix"]
+LIMIT = 1 << 30  # bytes of a file that the library takes
+
+
+def room(world):
+    """A floor of 20 x 20 voxels of 0.1 m, with a pillar on it in known space."""
+    world.edit_box((-1, -1, 0), (0.95, 0.95, 1.05), Event.SET, -400)
+    world.edit_box((-1, -1, 0), (0.95, 0.95, 0.05), Event.SET, 850)
+    world.edit_box((0, 0, 0.05), (0.35, 0.35, 0.55), Event.SET, 1250)
+
+
+def other_room(world):
+    """The same, with the pillar elsewhere, and a part that is unknown."""
+    room(world)
+    world.edit_box((0, 0, 0.15), (0.35, 0.35, 0.55), Event.SET, -400)
+    world.edit_box((-0.5, -0.5, 0.1), (-0.35, -0.35, 0.45), Event.SET, 850)
+    world.edit_box((0.5, -1, 0), (0.95, -0.65, 1.05), Event.FORGET)
+
+
+def tool(*words):
+    ran = subprocess.run([*COMMAND, *map(str, words)], capture_output=True)
+    if ran.returncode:
+        raise AssertionError(ran.stderr.decode())
+    return ran.stdout.decode()
+
+
+@unittest.skipIf(browser.missing(), browser.missing())
+class Page(unittest.TestCase):
+    @classmethod
+    def setUpClass(cls):
+        found = tempfile.TemporaryDirectory()
+        cls.addClassCleanup(found.cleanup)
+        cls.folder = Path(found.name)
+        cls.page = cls.folder / "viewer.html"
+        make = [sys.executable, engines.WEB / "make_page.py", os.environ["OCTOFIX_WASM"], cls.page]
+        subprocess.run(make, check=True)
+        cls.worlds = {}
+        for name, fill in (("one", room), ("two", other_room)):
+            cls.worlds[name] = world = Map(0.1)
+            fill(world)
+            world.snapshot(cls.folder / f"{name}.snap")
+            world.save(cls.folder / f"{name}.bt")
+        cls.window = browser.Browser(1000, 700)
+        cls.addClassCleanup(cls.window.close)
+        cls.window.command(
+            "Browser.setDownloadBehavior", behavior="allow", downloadPath=str(cls.folder / "given")
+        )
+
+    def start(self, first=""):
+        self.window.open(self.page.as_uri(), first, shown="window.page")
+
+    def drop(self, *names):
+        self.window.drop(600, 350, *[self.folder / it for it in names])
+        self.settle()
+
+    def settle(self):
+        """Waits until what was begun is done, and drawn."""
+        self.window.js("page.queue.then(() => true)")
+        self.window.js("(window.viewer ? viewer.supply.done() : Promise.resolve()).then(() => 1)")
+        self.window.settle()
+
+    def said(self, name):
+        return self.window.js(f"document.getElementById('{name}').textContent")
+
+    def facts(self):
+        rows = "Array.from(document.getElementById('facts').rows, it => [it.cells[0], it.cells[1]])"
+        return dict(self.window.js(f"{rows}.map(it => it.map(cell => cell.textContent))"))
+
+    def choose(self, select, value):
+        self.window.js(f"""(() => {{ const it = document.getElementById("{select}");
+            it.value = {value!r}; it.dispatchEvent(new Event("change", {{bubbles: true}})); }})()""")
+
+    def told(self, *clicks):
+        """What is told after clicks."""
+        text = self.said("told")
+        for x, y in clicks:
+            self.window.click(x, y)
+            self.window.until(f"document.getElementById('told').textContent !== {text!r}", 20)
+            text = self.said("told")
+        return text
+
+    def pixel_of(self, key):
+        """Where the middle of a voxel is seen."""
+        return self.window.run(f"""
+            const m = viewer.camera.matrix(), key = {list(key)};
+            const at = key.map((it, n) => it + 0.5 - viewer.middle[n]);
+            const [x, y, , w] = [0, 1, 2, 3].map(row =>
+              m[row] * at[0] + m[4 + row] * at[1] + m[8 + row] * at[2] + m[12 + row]);
+            return [(x / w + 1) / 2 * viewer.canvas.clientWidth,
+              (1 - y / w) / 2 * viewer.canvas.clientHeight];""")
+
+    def test_a_map_is_told(self):
+        self.start()
+        self.assertEqual(self.said("fault"), "")
+        self.drop("one.snap")
+        world, facts = self.worlds["one"], self.facts()
+        for kind in ("occupied", "free"):
+            many = len(world.voxels(kind))
+            self.assertEqual(facts[kind], f"{many / 1000:.3f} m³ ({many:,} voxels)")
+        self.assertEqual(facts["known box"], "2 × 2 × 1.1 m")
+        self.assertEqual(facts["nodes"], f"{world.least_tree().nodes:,}")
+        # the top of the pillar, and the floor: their voxels, and their colours by height
+        for place, value in (((0.05, 0.05, 0.55), 1250), ((-0.85, -0.85, 0.05), 850)):
+            key = world.keys([place])[0]
+            text = self.told(self.pixel_of(key))
+            self.assertTrue(text.startswith(f"occupied at {' '.join(map(str, place))} m; "), text)
+            self.assertIn(f"value {value}, probability {1 / (1 + np.exp(-value / 1000)):.3f}", text)
+            self.assertIn(f"key {' '.join(map(str, key))}", text)
+        places = self.pixel_of((32762, 32773, 32768)), (990, 10)
+        colours = [self.window.pixels()[int(y), int(x)] for x, y in places]
+        self.assertLess(np.abs(colours[0].astype(int) - (68, 1, 84)).max(), 30)
+        self.assertEqual(colours[1].tolist(), [255, 255, 255])
+        self.assertEqual(self.window.faults(), [])
+
+    def test_free_is_drawn_where_it_is_asked_for(self):
+        self.start()
+        self.drop("one.bt")
+        self.assertTrue(self.window.js("viewer.painter.border === undefined"))
+        self.window.js("document.getElementById('free').click()")
+        self.settle()
+        runs = "viewer.painter.border.all.flatMap(it => it.runs)"
+        self.assertGreater(self.window.js(f"{runs}.reduce((sum, it) => sum + it.many, 0)"), 0)
+        # cut above the pillar's foot, the cut shows free voxels, and a click there tells of one
+        self.window.js("viewer.look(270, 90)")
+        self.window.js("viewer.cut('high', viewer.low[2] + 3)")
+        self.settle()
+        key = self.worlds["one"].keys([(-0.55, 0.55, 0.25)])[0]
+        self.assertTrue(self.told(self.pixel_of(key)).startswith("free at -0.55 0.55 0.25 m"))
+
+    def test_two_clicks(self):
+        """How far two voxels lie from each other, what is between them, and what is in their box."""
+        self.start()
+        self.drop("one.snap")
+        world = self.worlds["one"]
+        self.window.js("viewer.look(270, 90)")
+        self.window.settle()
+        places = np.array([(-0.55, 0.15, 0.05), (0.75, 0.15, 0.05)])
+        first, last = (self.pixel_of(it) for it in world.keys(places))
+        self.choose("click", "way")
+        self.assertIn("from here", self.told(first))
+        text = self.told(last)
+        self.assertIn("1.300 m away; 1.300 m across; 0.000 m up", text)
+        kinds, keys = world.cast(places[0] + (0.0501, 0, 0), places[1])
+        met = " ".join(f"{it:.9g}" for it in world.centers(keys)[0])
+        self.assertEqual(kinds[0], 1)
+        self.assertIn(f"the straight way meets occupied at {met} m", text)
+        self.choose("click", "box")
+        self.told(first)
+        self.assertIn("14 occupied (0.014 m³); 0 free (0.000 m³); 0 unknown", self.told(last))
+
+    def test_two_maps(self):
+        self.start()
+        self.drop("one.snap", "two.snap")
+        self.assertEqual(self.said("title"), "two.snap")
+        self.choose("maps", "0")
+        self.window.until("document.getElementById('title').textContent === 'one.snap'")
+        self.settle()
+        self.choose("other", "1")
+        self.window.until("document.getElementById('title').textContent.includes('beside')")
+        self.settle()
+        pair = [self.folder / f"{it}.bt" for it in ("one", "two")]
+        table = compare_of(*pair)
+        rows = self.facts()
+        for one, other in ((a, b) for a in table for b in table[a]):
+            many = table[one][other]
+            self.assertTrue(rows[f"{one}, {other}"].startswith(f"{many:,} ("), (one, other, rows))
+        # the pillar's top, which is free in the second, has the colour of what differs
+        self.window.js("viewer.look(270, 90)")
+        key = self.worlds["one"].keys([(0.15, 0.15, 0.55)])[0]
+        x, y = self.pixel_of(key)
+        seen = self.window.pixels()[int(y) - 3 : int(y) + 4, int(x) - 3 : int(x) + 4]
+        middle = np.median(seen.reshape(-1, 3), axis=0)
+        self.assertLess(np.abs(middle - (240, 147, 43)).max(), 12)
+        text = "at 0.15 0.15 0.55 m: first occupied, value 1250, probability 0.777; second free, "
+        self.assertIn(f"{text}value -400", self.told((x, y)))
+        self.assertEqual(self.window.faults(), [])
+
+    def given(self, button, name):
+        """The file that a button gives."""
+        file = self.folder / "given" / name
+        file.unlink(missing_ok=True)
+        self.window.js(f"document.getElementById('{button}').click()")
+        end = time.monotonic() + 30
+        while not file.exists() or not file.stat().st_size:
+            self.assertLess(time.monotonic(), end, f"{name} isn't given")
+            time.sleep(0.05)
+        time.sleep(0.2)
+        return file
+
+    def test_files_are_saved(self):
+        self.start()
+        self.drop("one.snap")
+        world = self.worlds["one"]
+        self.assertEqual(self.given("bt", "one.bt").read_bytes(), world.to_bt())
+        self.assertEqual(self.given("snapshot", "one.snap").read_bytes(), world.to_snapshot())
+        tool("points", self.folder / "one.bt", "-o", self.folder / "one.ply")
+        wanted_points = (self.folder / "one.ply").read_bytes()
+        self.assertEqual(self.given("ply", "one.ply").read_bytes(), wanted_points)
+        # a band from the pillar's second layer on
+        self.window.js("viewer.cut('low', viewer.low[2] + 2)")
+        height = (0.25, 1.05)
+        tool("grid", self.folder / "one.bt", "--height", *height, "-o", self.folder / "band.png")
+        images = wanted("PIL.Image")
+        came, should = (
+            np.asarray(images.open(it))
+            for it in (self.given("grid", "one.png"), self.folder / "band.png")
+        )
+        self.assertEqual(came.tolist(), should.tolist())
+
+    def test_files_that_are_none(self):
+        """Each is told in a line, and what was shown stays, and answers."""
+        whole = (self.folder / "one.bt").read_bytes()
+        for name, content in (
+            ("cut.bt", whole[:-3]), ("long.bt", whole + b"more"), ("empty.bt", b""),
+            ("text.bt", b"no map"), ("cut.snap", (self.folder / "one.snap").read_bytes()[:-1]),
+        ):  # fmt: skip
+            (self.folder / name).write_bytes(content)
+        with open(self.folder / "large.bt", "wb") as file:
+            file.truncate(LIMIT + 1)
+        self.start()
+        self.drop("one.bt")
+        for name, said in (
+            ("cut.bt", "refused 17 Truncated at"), ("long.bt", "refused 18 TrailingBytes at"),
+            ("empty.bt", "refused 10 NotOctomap"), ("text.bt", "refused 10 NotOctomap"),
+            ("cut.snap", "refused 17 Truncated"), ("large.bt", "a map has at most 2^30"),
+        ):  # fmt: skip
+            self.drop(name)
+            line = self.said("fault")
+            self.assertTrue(line.startswith(f"{name} can't be opened: "), line)
+            self.assertIn(said, line)
+            self.assertNotIn("\n", line)
+        self.assertEqual(self.said("title"), "one.bt")
+        key = self.worlds["one"].keys([(0.05, 0.05, 0.55)])[0]
+        self.assertTrue(self.told(self.pixel_of(key)).startswith("occupied at"))
+        self.assertEqual(self.window.faults(), [])
+
+    def test_memory_that_runs_out(self):
+        """A map that is too large for the machine is told, and a smaller one is shown then."""
+        with Map(0.1) as world:
+            draw = np.random.default_rng(1)
+            world.set(draw.uniform(-60, 60, (60000, 3)), 850)
+            world.save(self.folder / "wide.bt")
+        tiny = "Object.defineProperty(navigator, 'deviceMemory', {value: 1 / 64});"
+        self.start(tiny)
+        self.drop("wide.bt")
+        line = "wide.bt can't be opened: the library has no memory for this call."
+        self.assertEqual(self.said("fault"), line)
+        self.drop("one.bt")
+        self.assertEqual((self.said("fault"), self.said("title")), ("", "one.bt"))
+
+    def test_a_worker_that_ends(self):
+        """It is told, and the next file is opened by another one."""
+        self.start()
+        self.drop("one.bt")
+        self.window.js("page.failed('it ran out of memory')")
+        line = "The worker of this page ended: it ran out of memory."
+        self.assertEqual(self.said("fault"), line)
+        self.drop("two.bt")
+        self.assertEqual((self.said("fault"), self.said("title")), ("", "two.bt"))
+
+    def test_nothing_goes_out(self):
+        self.start()
+        refused = self.window.js(
+            "fetch('https://octofix.invalid/').then(() => 'sent', why => why.name)"
+        )
+        self.assertEqual(refused, "TypeError")
+        self.assertTrue(any("Content Security Policy" in it for it in self.window.faults()))
+
+
+def compare_of(first, second):
+    """The table of `octofix compare`."""
+    return json.loads(tool("compare", first, second, "--json"))["table"]
+
+
+if __name__ == "__main__":
+    unittest.main()
