@@ -1,6 +1,8 @@
 """Files of all kinds that the tools read, and damage to them."""
 
 import gzip
+import importlib
+import importlib.util
 import io
 import random
 import re
@@ -39,6 +41,14 @@ def samples(has_bags):
     found.append(_cloud(".bin", np.ones((6, 4), "<f4").tobytes()))
     found.append(_cloud(".pcd.bin", np.ones((6, 5), "<f4").tobytes()))
     found.append(_cloud(".bin", np.ones((5, 4), "<f8").tobytes(), "--columns-of-bin", "4d"))
+    archive = io.BytesIO()
+    np.savez_compressed(archive, points=POINTS, n=POINTS[0])
+    found.append(_cloud(".npz", archive.getvalue()))
+    found.append(_cloud(".pts", b"2\n1 2 3 7 0 0 255\n4 5 6 7 0 0 255\n"))
+    camera = ("--camera", 4, 2, 1, 0, "--depth-scale", 1000)
+    found.append(_cloud(".npy", _npy(np.array([[1, 2, 0], [0, 4, 7]], "<u2")), *camera))
+    if importlib.util.find_spec("PIL"):
+        found.append(_cloud(".png", _png(np.array([[1, 2, 0], [0, 4, 7]], "<u2")), *camera))
     found.append(_cloud(".xyz.gz", gzip.compress(b"1 2 3\n4 5 6\n")))
     if has_bags:
         bag, poses = (DATA / "small.bag").read_bytes(), ("--pose-topic", "/odom")
@@ -62,6 +72,12 @@ def _cloud(ending, content, *words):
 def _poses(content, many):
     clouds = [DATA / it for it in ("corner.pcd", "corner.xyz", "corner_ascii.ply")[:many]]
     return Sample("poses", content, ("map", "--res", "100", "--quiet", "--poses", "poses", *clouds))
+
+
+def _png(array):
+    file = io.BytesIO()
+    importlib.import_module("PIL.Image").fromarray(array).save(file, "PNG")
+    return file.getvalue()
 
 
 def _npy(array):

@@ -10,6 +10,7 @@ import sys
 import time
 import types
 import warnings
+import zipfile
 from unittest import mock
 
 import numpy as np
@@ -322,9 +323,10 @@ class Kinds(Inputs):
 
     def test_kinds(self):
         archive = io.BytesIO()
-        np.savez(archive, points=np.ones((3, 3)))
-        self.is_refused(": it is a ZIP archive, as a .npz is one: unpack it first",
-                        archive.getvalue(), name="a.npz")  # fmt: skip
+        with zipfile.ZipFile(archive, "w") as file:
+            file.writestr("a.xyz", "1 2 3\n")
+        said = ": it is a ZIP archive, and has no array of NumPy's in it"
+        self.is_refused(said, archive.getvalue(), name="a.zip")
         for coding in ("utf-16", "utf-16-le", "utf-16-be"):
             self.is_refused(f": it is {UTF_16}", "1 2 3\n4 5 6\n".encode(coding))
         self.is_refused(": it is text in UTF-32, and UTF-8 is read", "1 2 3\n".encode("utf-32"))

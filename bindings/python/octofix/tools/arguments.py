@@ -70,6 +70,14 @@ def positive(word):
     return number
 
 
+def units(word):
+    """How many units are a metre, and not how many metres a unit is."""
+    number = _read(float, word, "number")
+    if not 1 <= number < 1e9:
+        raise argparse.ArgumentTypeError(f"{word} isn't from 1 to below 10^9: units in a metre")
+    return number
+
+
 def length(word):
     """Metres; a part of a nanometre is no length."""
     number = _read(float, word, "number of metres")
@@ -151,6 +159,15 @@ def add_scans(parser, is_optional=False):
     form.add_argument(
         "--columns-of-bin", type=records, metavar="N[f|d]",
         help="how many columns a .bin has, of four bytes each (f) or eight (d)",
+    )  # fmt: skip
+    form.add_argument("--array", metavar="NAME", help="which array of an .npz, where several fit")
+    form.add_argument(
+        "--camera", type=finite, nargs=4, metavar=("FX", "FY", "CX", "CY"),
+        help="make points of depth images: focal lengths and centre, in pixels",
+    )  # fmt: skip
+    form.add_argument(
+        "--depth-scale", type=units, metavar="N",
+        help="how many units of depth are a metre: 1000 for mm, 5000 for TUM's",
     )  # fmt: skip
     form.add_argument(
         "--scale", type=positive, metavar="S", help="metres in a unit of points: 0.001 for mm (1)"

@@ -11,7 +11,7 @@ LAS = b"LASF"
 FRONT = 1024
 UTF_16 = "text in UTF-16, and UTF-8 is read (iconv -f UTF-16 -t UTF-8)"
 UNREAD = [
-    (rb"PK(\x03\x04|\x05\x06)", "a ZIP archive, as a .npz is one: unpack it first"),
+    (rb"PK(\x03\x04|\x05\x06)", "a ZIP archive, as a .npz is one"),
     (rb"BZh|\xfd7zXZ\0|\x28\xb5\x2f\xfd|7z\xbc\xaf|Rar!", "packed, and only gzip is unpacked"),
     (rb"SQLite format 3\0", "an SQLite file, as a ROS 2 bag is one, which isn't read"),
     (rb"\x89MCAP", "an MCAP file of ROS 2, which isn't read"),

@@ -169,7 +169,10 @@ class Scans:
         else:
             self._say_once("no pose is given: the sensor stands at the origin", cloud.name)
             pose = IDENTITY
-        return pose and pose.along(self.frames.turn).carrying(self.frames.mount)
+        if pose is None:
+            return None
+        placed = pose.along(self.frames.turn).carrying(self.frames.mount)
+        return placed.carrying(self.frames.turn) if cloud.is_optical else placed
 
     def _pose_in(self, cloud):
         """The pose of a file, which is in its unit. (What a bag says of it is in metres.)"""

@@ -5,6 +5,7 @@ import os
 
 from .clouds import Reading
 from .clouds.bags import Topics
+from .clouds.depth import Camera
 from .clouds.reading import is_bag, is_bin
 from .errors import Unusable
 from .ordering import in_order
@@ -30,8 +31,9 @@ def scans_of(options):
     topics = Topics(options.topic, options.pose_topic, options.frame, nearness, bags)
     allows_empty = getattr(options, "allow_empty", False)
     reading = Reading(
-        options.format, options.columns, topics, allows_empty, options.columns_of_bin
-    )
+        options.format, options.columns, topics, allows_empty,
+        options.columns_of_bin, options.array, _camera(options),
+    )  # fmt: skip
     choice = Choice(
         options.every, options.min_range, options.voxel, options.scale, options.range
     )
@@ -81,6 +83,19 @@ def _expect_use(options):
     if options.tolerance is not None and not any(getattr(options, it) for it in BY_TIME):
         needed = "--by-time, --times, --pose-topic or --frame"
         raise Unusable(f"--tolerance needs {needed}")
+
+
+def _camera(options):
+    """The Camera of depth images, or None."""
+    if options.camera is None:
+        if options.depth_scale is not None:
+            raise Unusable("--depth-scale needs --camera")
+        return None
+    if min(options.camera[:2]) <= 0:
+        raise Unusable("the focal lengths of --camera are above 0")
+    if options.world:
+        raise Unusable("--camera and --world exclude each other")
+    return Camera(*options.camera, options.depth_scale)
 
 
 def _frames(options):

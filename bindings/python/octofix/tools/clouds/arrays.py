@@ -21,35 +21,28 @@ HEADERS = {
 def read_npy(name, content, reading):
     """One cloud of an (n, 3) array, of the columns that are asked of a wider one, or of records
     with the fields x, y and z or those that are asked."""
-    array = _array_of(content)
+    array = array_of(content)
     if array.dtype.names:
         return only(Cloud(name, _of_records(array, reading.columns)))
     if array.ndim != 2 or array.shape[1] < 3 or array.dtype.kind not in "fiu":
-        raise Unusable(f"{_shape_of(array)}, and n x 3 numbers are needed")
+        raise Unusable(f"{shape_of(array)}, and n x 3 numbers are needed")
     many, width = array.shape
     if many in (3, 4) and width >= MANY and not reading.columns:
         said = "it looks transposed, and n x 3 numbers are needed"
-        raise Unusable(f"{_shape_of(array)}: {said} (save array[:3].T)")
+        raise Unusable(f"{shape_of(array)}: {said} (save array[:3].T)")
     if width > 3 and not reading.columns:
-        said = f"{_shape_of(array)}: which columns are x, y and z isn't said"
+        said = f"{shape_of(array)}: which columns are x, y and z isn't said"
         row = ", ".join(map(str, array[:1].ravel().tolist()))
         raise Unusable(f"{said} (as --columns 1,2,3): {row[:80]}")
     columns = places_of([], width, reading.columns or ["1", "2", "3"], "its array")
     return only(Cloud(name, array if columns == list(range(width)) else array[:, columns]))
 
 
-def _array_of(content):
-    """The array, which stays in the content."""
+def array_of(content):
+    """The array of an .npy, which stays in the content."""
     stream = io.BytesIO(content)
-    # (of a damaged header Python's parser raises and warns whatever it likes)
-    with warnings.catch_warnings(), failing_as("an array of numbers"):
-        warnings.simplefilter("ignore")
-        version = np.lib.format.read_magic(stream)
-        if version not in HEADERS:
-            raise Unusable(f"its version {version[0]}.{version[1]} isn't read")
-        shape, is_by_columns, kind = HEADERS[version](stream)
-        if not _is_sound(kind) or min(shape, default=0) < 0:
-            raise ValueError(f"of {kind}")
+    shape, is_by_columns, kind = layout_of(stream)
+    with failing_as("an array of numbers"):
         many, start = math.prod(shape), stream.tell()
         size = len(content) - start
         if size != many * kind.itemsize:
@@ -59,6 +52,20 @@ def _array_of(content):
             return np.empty(shape, kind)
         values = np.frombuffer(content, kind, many, start)
         return values.reshape(shape, order="F" if is_by_columns else "C")
+
+
+def layout_of(stream):
+    """The shape of an .npy that begins in a stream, whether it stands by columns, and its type."""
+    # (of a damaged header Python's parser raises and warns whatever it likes)
+    with warnings.catch_warnings(), failing_as("an array of numbers"):
+        warnings.simplefilter("ignore")
+        version = np.lib.format.read_magic(stream)
+        if version not in HEADERS:
+            raise Unusable(f"its version {version[0]}.{version[1]} isn't read")
+        shape, is_by_columns, kind = HEADERS[version](stream)
+        if not _is_sound(kind) or min(shape, default=0) < 0:
+            raise ValueError(f"of {kind}")
+        return shape, is_by_columns, kind
 
 
 def _is_sound(kind):
@@ -72,7 +79,8 @@ def _is_sound(kind):
     )  # fmt: skip
 
 
-def _shape_of(array):
+def shape_of(array):
+    """What is said of an array's shape and kind."""
     return f"its array is {' x '.join(map(str, array.shape))} of {array.dtype}"
 
 

@@ -15,7 +15,8 @@ class Cloud:
     points: (n, 3) in metres, of any kind of numbers; pose: where the file says that the sensor
     stood, or None; time: in seconds, or None; notes: what is said of how the file was read; gap:
     why there is no pose where there should be one; cut: what is said of a file that may have been
-    cut in its last number, or None.
+    cut in its last number, or None; is_optical: whether points are along the axes of what poses are
+    of where that is a camera.
     """
 
     name: str
@@ -25,6 +26,7 @@ class Cloud:
     notes: tuple = ()
     gap: str = None
     cut: str = None
+    is_optical: bool = False
 
 
 def xyz_of(records, names=AXES):

@@ -8,14 +8,17 @@ from dataclasses import dataclass, field
 from ..errors import Unusable, failing_as
 from ..files import read_bytes
 from ..kinds import LAS, ROS_BAG, refuse_empty, refuse_unread
-from . import arrays, bags, graph, las, nodes, pcd, ply, records, text
+from . import archives, arrays, bags, depth, graph, las, nodes, pcd, ply, pts, records, text
 from .records import Records
 
 READERS = {
     "pcd": pcd.read,
     "ply": ply.read,
     "text": text.read,
+    "pts": pts.read,
     "npy": arrays.read_npy,
+    "npz": archives.read,
+    "depth": depth.read,
     "bin": records.read,
     "kitti": records.read_kitti,
     "nuscenes": records.read_nuscenes,
@@ -24,11 +27,14 @@ READERS = {
     "graph": graph.read,
 }
 FORMS = [*READERS, "bag"]
-WITHOUT_COLUMNS = ("log", "graph", "bag")
+WITHOUT_COLUMNS = ("log", "graph", "depth", "bag")
+NPY = rb"\x93NUMPY"
 SIGNS = [
     (rb"(#[^\n]*\n\s*)*VERSION |# \.PCD|FIELDS ", "pcd"),
     (rb"ply\r?\n", "ply"),
-    (rb"\x93NUMPY", "npy"),
+    (NPY, "npy"),
+    (rb"PK(\x03\x04|\x05\x06)", "npz"),
+    (depth.PNG, "depth"),
     (LAS, "las"),
     (ROS_BAG, "bag"),
     # (each blank and each comment can be taken in one way alone, else this takes for ever)
@@ -37,6 +43,7 @@ SIGNS = [
 BIN = r"\.bin(\.gz)?$"
 ENDINGS = [
     (BIN, "bin"),
+    (r"\.pts(\.gz)?$", "pts"),
     (r"\.graph(\.gz)?$", "graph"),
     (r"\.bag$", "bag"),
 ]
@@ -46,14 +53,16 @@ ENDINGS = [
 class Reading:
     """How files are read: a form of FORMS or None for what the file itself shows, and the columns
     of x, y and z as --columns has them, or None; topic and the like are for bags; whether a file of
-    no byte is a cloud of no point; the Records of a .bin, or None. What was read for later is kept
-    by the names of files."""
+    no byte is a cloud of no point; the Records of a .bin, the name of an array of an .npz, and the
+    Camera of depth images, or None. What was read for later is kept by the names of files."""
 
     form: str = None
     columns: list = None
     bag: bags.Topics = bags.Topics()
     allows_empty: bool = False
     records: Records = None
+    array: str = None
+    camera: depth.Camera = None
     kept: dict = field(default_factory=dict, compare=False)
 
 
@@ -110,6 +119,7 @@ def _opened(name, reading):
         if not reading.allows_empty:
             refuse_empty(content)
         form = form or form_of(name, content)
+        form = "depth" if form == "npy" and reading.camera else form
         if form == "text":
             refuse_unread(content)
     if reading.columns and form in WITHOUT_COLUMNS:

@@ -2,11 +2,12 @@
 
     octofix map --res 0.1 --poses poses.txt clouds/*.pcd -o map.bt
 
-Each cloud is one scan of a sensor: PCD, PLY, XYZ or CSV, NumPy's .npy, KITTI's .bin, LAS, these
-packed by gzip, scan logs (NODE) and .graph files of the OctoMap library, and ROS 1 bags. Points are
-in metres in the sensor's own frame. Three columns of text are x, y and z; of more a heading or
---columns says which are. Where a pose stands in the file (VIEWPOINT of PCD, NODE) it is used unless
-poses are given; without any, the sensor stands at the origin.
+Each cloud is one scan of a sensor: PCD, PLY, XYZ, CSV or PTS, NumPy's .npy and .npz, KITTI's .bin,
+LAS, these packed by gzip, depth images (--camera), scan logs (NODE) and .graph files of the OctoMap
+library, and ROS 1 bags. Points are in metres in the sensor's own frame. Three columns of text are
+x, y and z; of more a heading or --columns says which are. Where a pose stands in the file
+(VIEWPOINT of PCD, NODE) it is used unless poses are given; without any, the sensor stands at the
+origin.
 
 --jobs N makes the same map by N threads, each of which has a region. --region K/N does the scans in
 one of N regions, the same ones for the same clouds; 'octofix merge' joins their snapshots.
