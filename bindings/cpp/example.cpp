@@ -78,7 +78,7 @@ int main() {
     scan(world);
     ask(world);
 
-    octofix::map copy = world.clone();
+    octofix::map copy = world.copy();
     edit(copy);
     octofix::map moved = std::move(copy);
     say("the copy", moved.get(metres(1.05, 0.05, 0.05)));

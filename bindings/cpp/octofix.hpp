@@ -6,7 +6,7 @@
 //     for (const auto &leaf : world.leaves()) { .. }
 //
 // Units. Points are octofix_point, in whole nanometres, and metres() makes them: a number of metres
-// is multiplied by 10^9 in double and rounded to the nearest whole number, halves away from zero. A
+// is multiplied by 10^9 in double and rounded to the nearest whole number, halves to the even one. A
 // number that isn't finite, or of magnitude 10^7 or more, and a range below 0, is refused by
 // bad_length, which has the index of the first point at fault; that happens before the map is
 // called. What is known of a voxel, its value, is in thousandths of log-odds, as in octofix.h.
@@ -26,384 +26,24 @@
 #else
 
 #include "octofix.h"
+#include "octofix/blocks.hpp"
 #include "octofix/errors.hpp"
 #include "octofix/files.hpp"
+#include "octofix/metres.hpp"
+#include "octofix/poses.hpp"
+#include "octofix/types.hpp"
 
-#include <algorithm>
 #include <array>
-#include <cmath>
 #include <cstddef>
 #include <cstdint>
 #include <filesystem>
-#include <iterator>
-#include <new>
 #include <optional>
-#include <stdexcept>
-#include <string>
-#include <type_traits>
 #include <utility>
 #include <vector>
 
 namespace octofix {
 
-using point = octofix_point; ///< in whole nanometres
-using voxel_key = octofix_key;
-using box = octofix_box;
-using segment = octofix_segment;
-using pose = octofix_pose;
-using odds = octofix_odds; ///< in thousandths
-using limits = octofix_limits;
-using settings = octofix_settings;
-using counted = octofix_counted;
-using counts = octofix_counts;
-using least_tree = octofix_least_tree;
-using block = octofix_block;
-using answer = octofix_answer;
-using stop = octofix_stop; ///< its code: OCTOFIX_DONE (occupied), OCTOFIX_UNKNOWN or OCTOFIX_CLEAR
-
-/// What an edit does to the value of a voxel.
-enum class event : std::uint32_t {
-    add = OCTOFIX_ADD,
-    set = OCTOFIX_SET,
-    forget = OCTOFIX_FORGET,
-    likely = OCTOFIX_LIKELY
-};
-
-/// Which value a voxel gets that both maps of a merge know.
-enum class rule : std::uint32_t {
-    first = OCTOFIX_FIRST,
-    greatest = OCTOFIX_GREATEST,
-    least = OCTOFIX_LEAST
-};
-
-/// How a voxel has changed since the mark.
-enum class change_kind : std::uint16_t {
-    is_new = OCTOFIX_NEW,
-    lost = OCTOFIX_LOST,
-    occupied = OCTOFIX_OCCUPIED,
-    freed = OCTOFIX_FREED
-};
-
-/// What bounds() and leaves() look for.
-enum class sought : std::uint32_t {
-    known = OCTOFIX_KNOWN_VOXELS,
-    occupied = OCTOFIX_OCCUPIED_VOXELS,
-    free = OCTOFIX_FREE_VOXELS
-};
-
-inline constexpr odds default_odds = OCTOFIX_DEFAULT_ODDS;
-inline constexpr limits default_limits = OCTOFIX_DEFAULT_LIMITS;
-
-/// How a scan is to be done. The range is in metres, 0 or more, and none where it isn't given.
-/// Where hit and miss are both 0, they are those of the map.
-struct scan_options {
-    std::optional<double> range;
-    std::int32_t hit = 0, miss = 0;
-    bool lazy = false;
-};
-
-/// An edit of the voxel that holds a point.
-struct edit {
-    point at;
-    event what;
-    std::int32_t number = 0;
-};
-
-struct change {
-    voxel_key key;
-    change_kind kind;
-};
-
-/// What the columns of voxels of a box show, each as one cell: the numbers and the order of the
-/// data of a nav_msgs/OccupancyGrid of ROS.
-struct occupancy_grid {
-    std::size_t width = 0, height = 0; ///< how many cells there are along x, and along y
-    double x = 0, y = 0;               ///< the lowest corner of the first one, in metres
-    double resolution = 0;             ///< the edge of a cell, in metres
-    /// OCTOFIX_CELL_OCCUPIED, .._FREE or .._UNKNOWN, the row of the lowest y first.
-    std::vector<std::int8_t> cells;
-
-    /// The cell of a column, in a row on y, both from 0.
-    [[nodiscard]] std::int8_t at(std::size_t column, std::size_t row) const {
-        if (column >= width || row >= height) throw std::out_of_range("no such cell of a grid");
-        return cells[row * width + column];
-    }
-};
-
-/// A known voxel and its value.
-struct voxel {
-    voxel_key key;
-    std::int32_t value;
-};
-
-/// Elements that stand in a row and belong to somebody else: those of a vector, an array, a range
-/// of addresses. It is to be used while they stand.
-template <class T> class view {
-  public:
-    constexpr view() = default;
-    constexpr view(const T *first, std::size_t size) : first_(first), size_(size) {}
-    template <std::size_t N> constexpr view(const T (&array)[N]) : first_(array), size_(N) {}
-    template <class Row, class = std::enable_if_t<std::is_convertible_v<
-                             decltype(std::data(std::declval<const Row &>())), const T *>>>
-    constexpr view(const Row &row) : first_(std::data(row)), size_(std::size(row)) {}
-
-    constexpr const T *data() const { return first_; }
-    constexpr std::size_t size() const { return size_; }
-    constexpr bool empty() const { return size_ == 0; }
-    constexpr const T *begin() const { return first_; }
-    constexpr const T *end() const { return first_ + size_; }
-    constexpr const T &operator[](std::size_t i) const { return first_[i]; }
-
-  private:
-    const T *first_ = nullptr;
-    std::size_t size_ = 0;
-};
-
-namespace detail {
-
-/// Throws what a code is, but for 0.
-inline void check(std::uint32_t code, const details &named = {}, bool is_of_array = false) {
-    if (code == OCTOFIX_DONE) return;
-    if (code == OCTOFIX_MEMORY) throw std::bad_alloc();
-    throw refused(code, named, is_of_array);
-}
-
-/// Where elements begin, and some place where there are none: the calls of C take no null pointer.
-template <class T> const T *start(view<T> row) {
-    static const T none{};
-    return row.empty() ? &none : row.data();
-}
-
-template <class T, class = void> struct has_fields : std::false_type {};
-template <class T>
-struct has_fields<T, std::void_t<decltype(std::declval<const T &>().x + 0.0)>> : std::true_type {};
-
-/// All that a call lists. It is asked again where there are more than a few things.
-template <class T, class Call> std::vector<T> listed(Call call) {
-    std::vector<T> found(256);
-    std::size_t count = 0;
-    std::uint32_t code = call(found.data(), found.size(), &count);
-    if (code == OCTOFIX_SMALL_BUFFER) {
-        found.resize(count);
-        code = call(found.data(), found.size(), &count);
-    }
-    check(code);
-    found.resize(count);
-    return found;
-}
-
-} // namespace detail
-
-// -- metres, log-odds, keys
-
-/// Whole nanometres. Throws bad_length with this index.
-[[nodiscard]] inline std::int64_t nanometres(double metres, std::size_t index = 0) {
-    if (!(std::fabs(metres) < 1e7)) throw bad_length(index);
-    return std::llround(metres * 1e9);
-}
-
-namespace detail {
-
-/// The edge of a voxel.
-inline std::int64_t edge_of(double metres) {
-    if (std::fabs(metres) < 1e7) return nanometres(metres);
-    throw bad_length("the edge of a voxel isn't finite, or 10^7 m or more");
-}
-
-/// The range of a scan, as octofix.h has it.
-inline std::int64_t range_of(const std::optional<double> &metres) {
-    if (!metres) return -1;
-    if (*metres >= 0 && *metres < 1e7) return nanometres(*metres);
-    throw bad_length("a range isn't from 0 to below 10^7 m");
-}
-
-/// The key of a coordinate. Throws as a point outside the map is refused.
-inline std::uint16_t key_at(std::int64_t coordinate, std::int64_t res) {
-    const std::int64_t below = coordinate / res - (coordinate % res < 0);
-    if (below < -32768 || below > 32767) throw refused(OCTOFIX_OUTSIDE, {1, 0});
-    return static_cast<std::uint16_t>(below + 32768);
-}
-
-/// Whether a file begins as a snapshot.
-inline bool is_snapshot(view<std::uint8_t> file) {
-    static const std::string mark = "OCTSNAP";
-    return file.size() >= mark.size() && std::equal(mark.begin(), mark.end(), file.begin());
-}
-
-} // namespace detail
-
-/// A point in metres.
-[[nodiscard]] inline point metres(double x, double y, double z) {
-    return {nanometres(x), nanometres(y), nanometres(z)};
-}
-
-/// What is done with points that aren't finite, as those of an organised cloud that saw nothing.
-enum class unfinite { refused, skipped };
-
-namespace detail {
-
-/// Points that are collected from rows of numbers, of which each has its index.
-class collected {
-  public:
-    collected(std::size_t count, unfinite those) : skips_(those == unfinite::skipped) {
-        points_.reserve(count);
-    }
-    void add(double x, double y, double z) {
-        const std::size_t i = index_++;
-        if (skips_ && !(std::isfinite(x) && std::isfinite(y) && std::isfinite(z))) return;
-        points_.push_back({nanometres(x, i), nanometres(y, i), nanometres(z, i)});
-    }
-    std::vector<point> take() { return std::move(points_); }
-
-  private:
-    std::vector<point> points_;
-    std::size_t index_ = 0;
-    bool skips_;
-};
-
-} // namespace detail
-
-/// Points in metres: of any row whose elements have numbers x, y and z, or [0], [1] and [2].
-template <class Row>
-[[nodiscard]] std::vector<point> metres(const Row &row, unfinite those = unfinite::refused) {
-    detail::collected points(std::size(row), those);
-    for (const auto &it : row)
-        if constexpr (detail::has_fields<std::decay_t<decltype(it)>>::value)
-            points.add(it.x, it.y, it.z);
-        else
-            points.add(it[0], it[1], it[2]);
-    return points.take();
-}
-
-/// Points in metres: of count times three numbers in a row.
-template <class Number>
-[[nodiscard]] std::vector<point> metres(const Number *xyz, std::size_t count,
-                                        unfinite those = unfinite::refused) {
-    detail::collected points(count, those);
-    for (std::size_t i = 0; i < count; ++i, xyz += 3) points.add(xyz[0], xyz[1], xyz[2]);
-    return points.take();
-}
-
-/// The thousandths of log-odds of a probability: 847 of 0.7.
-[[nodiscard]] inline std::int32_t log_odds(double probability) {
-    const double value = 1000 * std::log(probability / (1 - probability));
-    if (!(std::fabs(value) <= 1e6)) throw std::domain_error("not a probability between 0 and 1");
-    return static_cast<std::int32_t>(std::lround(value));
-}
-
-/// The probability of a value.
-[[nodiscard]] inline double probability_of(std::int32_t value) {
-    return 1 / (1 + std::exp(static_cast<double>(value) / -1000.0));
-}
-
-/// A sensor at a place in metres that isn't turned.
-[[nodiscard]] inline pose pose_at(double x, double y, double z) {
-    return {metres(x, y, z), 32767, 0, 0, 0};
-}
-
-/// A sensor that is turned by a quaternion of any length. It is kept in sixteen bits, which is off
-/// by up to 3e-5 radians; where that is too much, turn the points before, and use scan_from.
-[[nodiscard]] inline pose turned(const point &at, double w, double x, double y, double z) {
-    const double largest =
-        std::fmax(std::fmax(std::fabs(w), std::fabs(x)), std::fmax(std::fabs(y), std::fabs(z)));
-    const bool is_finite =
-        std::isfinite(w) && std::isfinite(x) && std::isfinite(y) && std::isfinite(z);
-    if (!(largest > 0) || !is_finite)
-        throw std::domain_error("a quaternion that is 0, or isn't finite");
-    const auto part = [=](double q) {
-        return static_cast<std::int16_t>(std::lround(q / largest * 32767));
-    };
-    return {at, part(w), part(x), part(y), part(z)};
-}
-
-/// How many voxels the edge of a block has.
-[[nodiscard]] inline std::uint32_t edge(const block &it) {
-    return std::uint32_t{1} << (16 - it.depth);
-}
-
-/// The voxel of a block with the lowest keys.
-[[nodiscard]] inline voxel_key low(const block &it) {
-    const auto number = [&](std::uint16_t b) { return static_cast<std::uint16_t>(b * edge(it)); };
-    return {number(it.x), number(it.y), number(it.z)};
-}
-
-/// All known voxels of blocks, one after another, each made when it is reached. A block of depth 0
-/// has 2^48.
-class voxels {
-  public:
-    class iterator {
-      public:
-        using iterator_category = std::input_iterator_tag;
-        using value_type = voxel;
-        using difference_type = std::ptrdiff_t;
-        using pointer = const voxel *;
-        using reference = voxel;
-
-        iterator(const block *at, std::uint64_t number) : at_(at), number_(number) {}
-        voxel operator*() const {
-            const std::uint64_t n = edge(*at_);
-            const voxel_key first = low(*at_);
-            const auto add = [](std::uint16_t k, std::uint64_t more) {
-                return static_cast<std::uint16_t>(k + more);
-            };
-            return {{add(first.x, number_ / (n * n)), add(first.y, number_ / n % n),
-                     add(first.z, number_ % n)},
-                    at_->value};
-        }
-        iterator &operator++() {
-            const std::uint64_t n = edge(*at_);
-            if (++number_ == n * n * n) ++at_, number_ = 0;
-            return *this;
-        }
-        iterator operator++(int) {
-            iterator before = *this;
-            ++*this;
-            return before;
-        }
-        bool operator==(const iterator &other) const {
-            return at_ == other.at_ && number_ == other.number_;
-        }
-        bool operator!=(const iterator &other) const { return !(*this == other); }
-
-      private:
-        const block *at_;
-        std::uint64_t number_;
-    };
-
-    explicit voxels(std::vector<block> blocks) : blocks_(std::move(blocks)) {}
-    iterator begin() const { return {blocks_.data(), 0}; }
-    iterator end() const { return {blocks_.data() + blocks_.size(), 0}; }
-
-  private:
-    std::vector<block> blocks_;
-};
-
-/// The keys of all voxels of res metres that the straight way between two points meets.
-[[nodiscard]] inline std::vector<voxel_key> ray(double res, const point &origin, const point &end) {
-    const std::int64_t edge = detail::edge_of(res);
-    details named{};
-    return detail::listed<voxel_key>([&](voxel_key *keys, std::size_t room, std::size_t *count) {
-        const std::uint32_t code = octofix_ray(edge, &origin, &end, keys, room, count, &named);
-        if (code != OCTOFIX_SMALL_BUFFER) detail::check(code, named);
-        return code;
-    });
-}
-
-/// Where points of a sensor's frame lie in that of the map, each turned, rounded once, and moved,
-/// as by a scan.
-[[nodiscard]] inline std::vector<point> place(const pose &sensor, view<point> points) {
-    std::vector<point> places(points.size() + 1);
-    details named{};
-    detail::check(octofix_place(&sensor, detail::start(points), points.size(), places.data(),
-                                points.size(), &named),
-                  named, !points.empty());
-    places.pop_back();
-    return places;
-}
-
-// -- the map
-
-/// A map. It is moved, and copied by clone() alone; one that was moved from is closed.
+/// A map. It is moved, and copied by copy() alone; one that was moved from is closed.
 class map {
   public:
     /// An unknown map of voxels of res metres.
@@ -413,6 +53,11 @@ class map {
         const std::int64_t edge = detail::edge_of(res);
         detail::check(octofix_open(&handle_, edge, &log_odds, &most, &named), named);
     }
+    /// The same of a float, which stands for the decimal that it prints: 0.05f for 0.05.
+    template <class Float, class = detail::if_float<Float>>
+    explicit map(Float res, const odds &log_odds = default_odds,
+                 const limits &most = default_limits)
+        : map(detail::decimal_of(res), log_odds, most) {}
     map(map &&other) noexcept : handle_(std::exchange(other.handle_, octofix_map{})) {}
     map &operator=(map &&other) noexcept {
         map taken(std::move(other));
@@ -445,8 +90,8 @@ class map {
     }
 
     /// A map of its own with these values, log-odds, limits and update box. It isn't stale, and
-    /// has no mark.
-    [[nodiscard]] map clone() const {
+    /// has no mark. Refused as snapshot().
+    [[nodiscard]] map copy() const {
         const octofix::settings now = settings();
         map other;
         details named{};
@@ -454,6 +99,8 @@ class map {
         other.restore(snapshot());
         return other;
     }
+    /// Another name of copy().
+    [[nodiscard]] map clone() const { return copy(); }
 
     // Settings.
 
@@ -511,9 +158,17 @@ class map {
         if (code != OCTOFIX_DONE) throw edits_refused(code, named, done);
     }
 
-    /// Beams from a sensor to points in its own frame.
+    /// Beams from a sensor to points in its own frame. A scan whose beams meet more voxels than the
+    /// map's limit lets one have is done all the same, though in parts and never lazily: each voxel
+    /// is hit or freed once, as ever. (Where memory runs out for that in a map with a mark, a part
+    /// of it may be done.) A single beam of too many voxels is refused.
     octofix::counted scan(const pose &sensor, view<point> points, const scan_options &how = {}) {
         return scanned(&octofix_scan, sensor, points, how);
+    }
+    /// The same, with points that are turned in double.
+    octofix::counted scan(const turned_pose &sensor, view<point> points,
+                          const scan_options &how = {}) {
+        return scan(detail::upright_at(sensor.at), detail::turned_ways(sensor.by, points), how);
     }
     /// Beams from a place to points in the frame of the map.
     octofix::counted scan_from(const point &origin, view<point> points,
@@ -656,22 +311,38 @@ class map {
     }
     /// The voxel that holds a point. It is refused as a point outside the map is.
     [[nodiscard]] voxel_key key_of(const point &at) const {
+        return detail::key_of(at, settings().res);
+    }
+    /// The voxels that hold points.
+    [[nodiscard]] std::vector<voxel_key> keys(view<point> points) const {
         const std::int64_t res = settings().res;
-        return {detail::key_at(at.x, res), detail::key_at(at.y, res), detail::key_at(at.z, res)};
+        std::vector<voxel_key> all;
+        all.reserve(points.size());
+        for (const point &it : points) all.push_back(detail::key_of(it, res));
+        return all;
     }
-    /// The middle of a block in metres: x, y and z.
-    [[nodiscard]] std::array<double, 3> middle(const block &it) const {
-        const double res = resolution(), half = edge(it) / 2.0;
-        const voxel_key first = low(it);
-        return {(first.x - 32768 + half) * res, (first.y - 32768 + half) * res,
-                (first.z - 32768 + half) * res};
+    /// The middle of a block, or of a voxel, in metres: x, y and z.
+    [[nodiscard]] std::array<double, 3> center(const block &it) const {
+        return detail::center_of(it, resolution());
     }
-    /// The middle of a voxel in metres.
-    [[nodiscard]] std::array<double, 3> middle(const voxel_key &it) const {
-        return middle(block{16, it.x, it.y, it.z, 0});
+    [[nodiscard]] std::array<double, 3> center(const voxel_key &it) const {
+        return center(detail::block_of(it));
     }
+    /// The middles of blocks, or of voxels.
+    [[nodiscard]] std::vector<std::array<double, 3>> centers(view<block> blocks) const {
+        return detail::centers_of(blocks, resolution());
+    }
+    [[nodiscard]] std::vector<std::array<double, 3>> centers(view<voxel_key> keys) const {
+        std::vector<block> blocks;
+        blocks.reserve(keys.size());
+        for (const voxel_key &it : keys) blocks.push_back(detail::block_of(it));
+        return centers(blocks);
+    }
+    /// Other names of center().
+    [[nodiscard]] std::array<double, 3> middle(const block &it) const { return center(it); }
+    [[nodiscard]] std::array<double, 3> middle(const voxel_key &it) const { return center(it); }
     void middle(const block &it, double &x, double &y, double &z) const {
-        const auto there = middle(it);
+        const auto there = center(it);
         x = there[0], y = there[1], z = there[2];
     }
 
@@ -698,7 +369,16 @@ class map {
         details named{};
         detail::check(octofix_load(&handle_, detail::start(file), file.size(), &named), named);
     }
-    [[nodiscard]] bytes snapshot() const { return listed<std::uint8_t>(&octofix_snapshot); }
+    /// One of more than 2^30 bytes, which no call would take, is refused as 34 FileTooLarge, with
+    /// how many it would have.
+    [[nodiscard]] bytes snapshot() const {
+        return listed<std::uint8_t>([](auto *it, auto *first, auto room, auto *length) {
+            const std::uint32_t code = octofix_snapshot(it, first, room, length);
+            if (code == OCTOFIX_SMALL_BUFFER && *length > detail::most_bytes)
+                throw refused(detail::file_too_large, {*length, 0});
+            return code;
+        });
+    }
     void restore(view<std::uint8_t> file) {
         details named{};
         detail::check(octofix_restore(&handle_, detail::start(file), file.size(), &named), named);
@@ -744,11 +424,16 @@ class map {
                                               how.lazy};
         octofix::counted seen{};
         details named{};
-        detail::check(call(&handle_, &sensor, detail::start(points), points.size(), &options, &seen,
-                           &named),
-                      named, !points.empty());
+        const std::uint32_t code = call(&handle_, &sensor, detail::start(points), points.size(),
+                                        &options, &seen, &named);
+        if (code == OCTOFIX_TOO_MANY_CELLS && points.size() > 1)
+            return scanned_in_parts(call, sensor, points, options);
+        detail::check(code, named, !points.empty());
         return seen;
     }
+    template <class Call, class Sensor>
+    inline octofix::counted scanned_in_parts(Call call, const Sensor &sensor, view<point> points,
+                                             const octofix_scan_options &options);
     /// The blocks that a query lists of a box.
     template <class Call> std::vector<block> listed_in_box(Call call) const {
         details named{};
@@ -771,6 +456,8 @@ class map {
 };
 
 } // namespace octofix
+
+#include "octofix/parts.hpp"
 
 #endif // C++17
 #endif

@@ -67,6 +67,11 @@ class mapper {
         constexpr int last = detail::region::last;
         if (threads_ > 1) detail::limit(judge_, {{last, last, last}, {last, last, last}});
     }
+    /// The same by so many threads, with the log-odds and limits of a map().
+    mapper(double res, unsigned threads) : mapper(res, default_odds, default_limits, threads) {}
+    /// The same of a float, which stands for the decimal that it prints.
+    template <class Float, class = detail::if_float<Float>, class... Rest>
+    explicit mapper(Float res, const Rest &...rest) : mapper(detail::decimal_of(res), rest...) {}
     mapper(const mapper &) = delete;
     mapper &operator=(const mapper &) = delete;
     /// Ends the threads, each after the scan that it is doing.
@@ -81,6 +86,12 @@ class mapper {
         if (threads_ > 1) try_it([&] { seen = detail::upright(std::move(seen)); });
         judge_.scan(seen.sensor, seen.points, how);
         if (threads_ > 1) try_it([&] { accept(std::move(seen)); });
+    }
+
+    /// The same, with points that are turned in double.
+    void add(const turned_pose &sensor, const std::vector<point> &points,
+             const scan_options &how = {}) {
+        add(detail::upright_at(sensor.at), detail::turned_ways(sensor.by, points), how);
     }
 
     /// The map of all scans. There are no more after it.

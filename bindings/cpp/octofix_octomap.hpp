@@ -68,7 +68,7 @@ inline float to_float(std::int32_t thousandths) {
 /// The nearest thousandth; the largest number there is where that is too far.
 inline std::int32_t to_thousandths(float value) {
     constexpr double most = std::numeric_limits<std::int32_t>::max();
-    const double thousandths = std::round(1000.0 * static_cast<double>(value));
+    const double thousandths = std::nearbyint(1000.0 * static_cast<double>(value));
     return static_cast<std::int32_t>(std::fmax(-most, std::fmin(most, thousandths)));
 }
 
@@ -294,30 +294,40 @@ inline map from_octomap(const octomap::AbstractOcTree &tree,
     return made;
 }
 
-/// The map of a .ot file, whose nodes the OctoMap library reads. Such a file says nothing of
-/// log-odds: they are that library's defaults, with bounds so wide that the values lie within.
-/// The stream has to be one that can be read twice, as of a file or of a text. Throws refused for
-/// what isn't such a file (10 NotOctomap, 12 WrongId, 13 MissingField, 14 BadField, 16 TooDeep,
-/// 17 Truncated, 18 TrailingBytes), and what from_octomap throws.
-inline map read_ot(std::istream &in, const limits &most = default_limits) {
-    const detail::ot_header header = detail::read_ot_header(in);
-    const double res = detail::number_of(header.res);
-    if (!(res > 0)) detail::refuse_file(OCTOFIX_BAD_FIELD, 1);
+namespace detail {
+
+/// The map of a .ot file's bytes.
+inline map read_ot_bytes(const bytes &content, const limits &most) {
+    std::istringstream in(std::string(content.begin(), content.end()));
+    const ot_header header = read_ot_header(in);
+    const double res = number_of(header.res);
+    if (!(res > 0)) refuse_file(OCTOFIX_BAD_FIELD, 1);
     octomap::OcTree tree(res);
     if (header.has_nodes) {
-        detail::expect_nodes(in);
+        expect_nodes(in);
         tree.readData(in);
-        const auto [low, high] = detail::extremes(tree);
-        detail::tree_odds::hold(tree, low, high);
+        const auto [low, high] = extremes(tree);
+        tree_odds::hold(tree, low, high);
     }
     return from_octomap(tree, most);
 }
 
+} // namespace detail
+
+/// The map of a .ot file, whose nodes the OctoMap library reads. Such a file says nothing of
+/// log-odds: they are that library's defaults, with bounds so wide that the values lie within.
+/// The stream is read to its end, and may be a pipe. Throws refused for what isn't such a file
+/// (10 NotOctomap, 12 WrongId, 13 MissingField, 14 BadField, 16 TooDeep, 17 Truncated,
+/// 18 TrailingBytes), and what from_octomap throws; std::ios_base::failure where it can't be read.
+inline map read_ot(std::istream &in, const limits &most = default_limits) {
+    const auto content = detail::rest_of(in, std::numeric_limits<std::size_t>::max());
+    if (!content) throw std::ios_base::failure("a .ot file can't be read");
+    return detail::read_ot_bytes(*content, most);
+}
+
 /// The same of a file. Throws std::filesystem::filesystem_error where it can't be read.
 inline map read_ot(const std::filesystem::path &path, const limits &most = default_limits) {
-    const bytes content = detail::read_file(path);
-    std::istringstream in(std::string(content.begin(), content.end()));
-    return read_ot(in, most);
+    return detail::read_ot_bytes(detail::read_file(path), most);
 }
 
 } // namespace octofix

@@ -14,10 +14,7 @@
 
 int main() {
     try {
-        std::stringstream content;
-        content << std::cin.rdbuf();
-        content.clear(); // also of no bytes at all
-        const octofix::bytes snapshot = octofix::read_ot(content).snapshot();
+        const octofix::bytes snapshot = octofix::read_ot(std::cin).snapshot();
         const std::size_t written = std::fwrite(snapshot.data(), 1, snapshot.size(), stdout);
         if (written == snapshot.size() && std::fflush(stdout) == 0) return 0;
         std::perror("octofix-ot: it can't be written");

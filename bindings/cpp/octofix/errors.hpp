@@ -16,6 +16,11 @@ using details = octofix_details;
 
 namespace detail {
 
+/// The most bytes that a file of a map may have.
+inline constexpr std::size_t most_bytes = std::size_t{1} << 30;
+/// The code of one that has more, which no call of C answers.
+inline constexpr std::uint32_t file_too_large = 34;
+
 /// What the numbers are called that a refusal names, and how many there are.
 struct named_numbers {
     std::uint32_t code;
@@ -30,7 +35,8 @@ inline constexpr named_numbers numbers_of_codes[] = {
     {OCTOFIX_TRAILING_BYTES, "at", nullptr},    {OCTOFIX_SIZE_MISMATCH, "said", "found"},
     {OCTOFIX_BAD_SNAPSHOT, "at", nullptr},      {OCTOFIX_FULL, "groups", "need"},
     {OCTOFIX_OUTSIDE, "point", nullptr},        {OCTOFIX_WIDE_WHILE_TRACKED, "count", nullptr},
-    {OCTOFIX_OTHER_RESOLUTION, "file", "map"},  {OCTOFIX_BAD_ARGUMENT, "index", nullptr},
+    {OCTOFIX_OTHER_RESOLUTION, "file", "map"},  {OCTOFIX_WIDE_GRID, "count", nullptr},
+    {OCTOFIX_BAD_ARGUMENT, "index", nullptr},   {file_too_large, "count", nullptr},
 };
 
 /// The name of a code.
@@ -72,6 +78,7 @@ inline const char *hint_of(std::uint32_t code) {
     case OCTOFIX_TOO_MANY_CELLS:
         return "limits::max_cells of the map allows no more, and may be up to 2^27; with a range "
                "beams meet fewer";
+    case file_too_large: return "a snapshot has up to 2^30 bytes; save() writes classes in fewer";
     default: return "";
     }
 }

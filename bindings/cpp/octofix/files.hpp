@@ -2,6 +2,9 @@
 #ifndef OCTOFIX_FILES_HPP
 #define OCTOFIX_FILES_HPP
 
+#include "types.hpp"
+
+#include <algorithm>
 #include <cerrno>
 #include <cstddef>
 #include <cstdint>
@@ -65,9 +68,15 @@ inline bytes read_file(const std::filesystem::path &path,
     return *std::move(content);
 }
 
+/// Whether a file begins as a snapshot.
+inline bool is_snapshot(view<std::uint8_t> file) {
+    static const std::string mark = "OCTSNAP";
+    return file.size() >= mark.size() && std::equal(mark.begin(), mark.end(), file.begin());
+}
+
 /// A map's file; of one that has more bytes than a map may have, so many that it is refused.
 inline bytes read_map(const std::filesystem::path &path) {
-    return read_file(path, std::size_t{1} << 30);
+    return read_file(path, most_bytes);
 }
 
 /// An open file that is to be written, and its name in errors.

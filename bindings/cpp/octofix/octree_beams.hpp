@@ -2,13 +2,14 @@
 #ifndef OCTOFIX_OCTREE_BEAMS_HPP
 #define OCTOFIX_OCTREE_BEAMS_HPP
 
-#include "../octofix_octree.hpp"
+#include "octree_occupancy.hpp"
 
 #include <algorithm>
 #include <array>
 #include <cmath>
 #include <cstdint>
 #include <limits>
+#include <optional>
 #include <vector>
 
 namespace octofix {
@@ -24,9 +25,9 @@ inline point way_to(const point &from, const point3d &p) {
     const double largest =
         std::fmax(std::fabs(way[0]), std::fmax(std::fabs(way[1]), std::fabs(way[2])));
     if (largest < longest)
-        return {std::llround(p.x() * 1e9) - from.x, std::llround(p.y() * 1e9) - from.y,
-                std::llround(p.z() * 1e9) - from.z};
-    const auto part = [&](double c) { return std::llround(c / largest * longest); };
+        return {std::llrint(p.x() * 1e9) - from.x, std::llrint(p.y() * 1e9) - from.y,
+                std::llrint(p.z() * 1e9) - from.z};
+    const auto part = [&](double c) { return std::llrint(c / largest * longest); };
     return {part(way[0]), part(way[1]), part(way[2])};
 }
 
@@ -34,7 +35,44 @@ inline point way_to(const point &from, const point3d &p) {
 
 // Scans.
 
-inline Pointcloud OcTree::discretized(const Pointcloud &scan) const {
+/// While it stands, scans change only voxels of the box, as far as it lies in the map.
+class OcTreeOccupancy::box_limit {
+  public:
+    box_limit(map &limited, const number_box &to, std::int64_t edge) : map_(limited) {
+        std::array<key_type, 3> low{}, high{};
+        for (unsigned axis = 0; axis < 3; ++axis) {
+            const std::int64_t first = std::max<std::int64_t>(to.low[axis], 0);
+            const std::int64_t last = std::min<std::int64_t>(to.high[axis], 65535);
+            is_empty_ = is_empty_ || first > last;
+            low[axis] = static_cast<key_type>(first), high[axis] = static_cast<key_type>(last);
+        }
+        if (!is_empty_)
+            map_.limit(detail::point_of({low[0], low[1], low[2]}, edge),
+                       detail::point_of({high[0], high[1], high[2]}, edge));
+    }
+    box_limit(const box_limit &) = delete;
+    box_limit &operator=(const box_limit &) = delete;
+    ~box_limit() { octofix_no_limit(map_.handle()); }
+    bool is_empty() const { return is_empty_; }
+
+  private:
+    map &map_;
+    bool is_empty_ = false;
+};
+
+inline bool OcTreeOccupancy::insertRay(const point3d &origin, const point3d &end, double maxrange,
+                                       bool lazy) {
+    const double range = maxrange > 0 ? maxrange : -1;
+    OcTreeKey key;
+    if (!coordToKeyChecked(origin, key) || !coordToKeyChecked(cut(origin, end, range), key))
+        return false;
+    Pointcloud one;
+    one.push_back(end);
+    insert_scan(one, origin, range, lazy, false);
+    return true;
+}
+
+inline Pointcloud OcTreeOccupancy::discretized(const Pointcloud &scan) const {
     Pointcloud middles;
     KeySet seen;
     OcTreeKey key;
@@ -45,8 +83,10 @@ inline Pointcloud OcTree::discretized(const Pointcloud &scan) const {
 }
 
 /// The voxels that a scan frees and hits, in the box alone where it counts.
-inline void OcTree::find_update(const Pointcloud &scan, const point3d &origin, KeySet &free_cells,
-                                KeySet &occupied_cells, double maxrange, bool in_box) const {
+inline void OcTreeOccupancy::find_update(const Pointcloud &scan, const point3d &origin,
+                                         KeySet &free_cells, KeySet &occupied_cells,
+                                         double maxrange, bool in_box) const {
+    const number_box limits_of_scans = box_of_scans();
     KeyRay ray;
     OcTreeKey key;
     for (const point3d &p : scan) {
@@ -54,15 +94,15 @@ inline void OcTree::find_update(const Pointcloud &scan, const point3d &origin, K
         if (in_box && !(is_near && inBBX(p))) continue;
         if (computeRayKeys(origin, is_near ? p : cut(origin, p, maxrange), ray))
             for (const OcTreeKey &it : ray)
-                if (!in_box || inBBX(it)) free_cells.insert(it);
+                if (!in_box || limits_of_scans.holds(it)) free_cells.insert(it);
         if (is_near && coordToKeyChecked(p, key)) occupied_cells.insert(key);
     }
     for (const OcTreeKey &hit : occupied_cells) free_cells.erase(hit);
 }
 
 /// The ways of the beams that begin in the map and end there, once they are cut.
-inline std::vector<point> OcTree::ways_of(const Pointcloud &scan, const point3d &origin,
-                                          double maxrange, bool in_box) const {
+inline std::vector<point> OcTreeOccupancy::ways_of(const Pointcloud &scan, const point3d &origin,
+                                                   double maxrange, bool in_box) const {
     const point from = exact(origin);
     std::vector<point> ways;
     ways.reserve(scan.size());
@@ -76,8 +116,8 @@ inline std::vector<point> OcTree::ways_of(const Pointcloud &scan, const point3d 
     return ways;
 }
 
-inline void OcTree::insert_scan(const Pointcloud &scan, const point3d &origin, double maxrange,
-                                bool lazy, bool in_box) {
+inline void OcTreeOccupancy::insert_scan(const Pointcloud &scan, const point3d &origin,
+                                         double maxrange, bool lazy, bool in_box) {
     OcTreeKey key;
     if (!coordToKeyChecked(origin, key)) return hit_ends(scan, origin, maxrange, lazy, in_box);
     if (hit_ == 0 || miss_ == 0) // which a scan of a map takes for no log-odds
@@ -87,11 +127,12 @@ inline void OcTree::insert_scan(const Pointcloud &scan, const point3d &origin, d
     if (maxrange >= 0 && maxrange < 1e7) how.range = maxrange; // no longer one cuts a beam
     how.hit = hit_, how.miss = miss_, how.lazy = lazy;
     try {
-        const box_limit limit(*this, in_box);
-        if (limit.is_empty()) return;
-        const point from = exact(origin);
-        map_.scan({from, 32767, 0, 0, 0}, ways, how);
-        edited();
+        content().change([&](map &it) {
+            std::optional<box_limit> limit;
+            if (in_box) limit.emplace(it, box_of_scans(), edge());
+            if (limit && limit->is_empty()) return;
+            it.scan(detail::upright_at(exact(origin)), ways, how);
+        });
     } catch (const refused &error) {
         // A beam that ends in the map when it is cut in floats, and beside it when it is exactly.
         if (error.code() != OCTOFIX_POINT_OUTSIDE) throw;
@@ -100,8 +141,8 @@ inline void OcTree::insert_scan(const Pointcloud &scan, const point3d &origin, d
 }
 
 /// A scan by an edit of each voxel.
-inline void OcTree::insert_by_voxels(const Pointcloud &scan, const point3d &origin,
-                                     double maxrange, bool lazy, bool in_box) {
+inline void OcTreeOccupancy::insert_by_voxels(const Pointcloud &scan, const point3d &origin,
+                                              double maxrange, bool lazy, bool in_box) {
     KeySet free_cells, occupied_cells;
     find_update(scan, origin, free_cells, occupied_cells, maxrange, in_box);
     for (const OcTreeKey &it : free_cells) updateNode(it, false, lazy);
@@ -109,7 +150,7 @@ inline void OcTree::insert_by_voxels(const Pointcloud &scan, const point3d &orig
 }
 
 /// What the library does with a scan from outside the map: it hits the ends, and frees nothing.
-inline void OcTree::hit_ends(const Pointcloud &scan, const point3d &origin, double maxrange,
+inline void OcTreeOccupancy::hit_ends(const Pointcloud &scan, const point3d &origin, double maxrange,
                              bool lazy, bool in_box) {
     KeySet ends;
     OcTreeKey key;
@@ -121,7 +162,7 @@ inline void OcTree::hit_ends(const Pointcloud &scan, const point3d &origin, doub
 
 // Rays.
 
-inline point OcTree::far_end(const point &from, const point3d &direction, double max_range) const {
+inline point OcTreeOccupancy::far_end(const point &from, const point3d &direction, double max_range) const {
     const double length = direction.norm();
     if (!(length > 0) || std::isinf(length)) return from;
     const std::int64_t low = -32768 * edge(), high = 32768 * edge() - 1;
@@ -136,27 +177,27 @@ inline point OcTree::far_end(const point &from, const point3d &direction, double
     std::int64_t reached[3];
     for (unsigned axis = 0; axis < 3; ++axis) {
         const double part = direction(axis) / length;
-        const std::int64_t there = start[axis] + std::llround(way * part);
+        const std::int64_t there = start[axis] + std::llrint(way * part);
         reached[axis] = std::max(low, std::min(high, there));
     }
     return {reached[0], reached[1], reached[2]};
 }
 
-inline bool OcTree::castRay(const point3d &origin, const point3d &direction, point3d &end,
+inline bool OcTreeOccupancy::castRay(const point3d &origin, const point3d &direction, point3d &end,
                             bool ignore_unknown, double max_range) const {
     OcTreeKey key;
     if (!coordToKeyChecked(origin, key)) return false;
     const point from = exact(origin), to = far_end(from, direction, max_range);
-    const stop first = map_.cast(from, to, ignore_unknown);
+    const stop first = exact_map().cast(from, to, ignore_unknown);
     if (first.code == OCTOFIX_CLEAR)
-        coordToKeyChecked(in_metres(to.x), in_metres(to.y), in_metres(to.z), key);
+        coordToKeyChecked(detail::in_metres(to.x), detail::in_metres(to.y), detail::in_metres(to.z), key);
     else
         key = {first.key.x, first.key.y, first.key.z};
     end = keyToCoord(key);
     return first.code == OCTOFIX_DONE;
 }
 
-inline bool OcTree::computeRayKeys(const point3d &origin, const point3d &end, KeyRay &ray) const {
+inline bool OcTreeOccupancy::computeRayKeys(const point3d &origin, const point3d &end, KeyRay &ray) const {
     ray.reset();
     OcTreeKey key;
     if (!coordToKeyChecked(origin, key) || !coordToKeyChecked(end, key)) return false;
@@ -166,7 +207,7 @@ inline bool OcTree::computeRayKeys(const point3d &origin, const point3d &end, Ke
     return true;
 }
 
-inline bool OcTree::computeRay(const point3d &origin, const point3d &end,
+inline bool OcTreeOccupancy::computeRay(const point3d &origin, const point3d &end,
                                std::vector<point3d> &ray) const {
     KeyRay keys;
     if (!computeRayKeys(origin, end, keys)) return false;
@@ -175,7 +216,7 @@ inline bool OcTree::computeRay(const point3d &origin, const point3d &end,
     return true;
 }
 
-inline bool OcTree::getRayIntersection(const point3d &origin, const point3d &direction,
+inline bool OcTreeOccupancy::getRayIntersection(const point3d &origin, const point3d &direction,
                                        const point3d &center, point3d &intersection,
                                        double delta) const {
     const double half = getResolution() / 2;
@@ -194,28 +235,6 @@ inline bool OcTree::getRayIntersection(const point3d &origin, const point3d &dir
     if (std::isinf(nearest)) return false;
     intersection = origin + direction * static_cast<float>(nearest - delta);
     return true;
-}
-
-inline void OcTree::getUnknownLeafCenters(point3d_list &centers, point3d pmin, point3d pmax,
-                                          unsigned depth) const {
-    if (depth == 0) depth = 16;
-    const point3d low = keyToCoord(coordToKey(pmin, depth), depth);
-    const point3d high = keyToCoord(coordToKey(pmax, depth), depth);
-    const float step = static_cast<float>(getNodeSize(depth));
-    unsigned steps[3];
-    for (unsigned axis = 0; axis < 3; ++axis)
-        steps[axis] = static_cast<unsigned>(std::floor((high(axis) - low(axis)) / step));
-    point3d p = low;
-    for (unsigned x = 0; x < steps[0]; ++x, p.y() = low.y()) {
-        p.x() += step;
-        for (unsigned y = 0; y < steps[1]; ++y, p.z() = low.z()) {
-            p.y() += step;
-            for (unsigned z = 0; z < steps[2]; ++z) {
-                p.z() += step;
-                if (!search(p, depth)) centers.push_back(p);
-            }
-        }
-    }
 }
 
 } // namespace octofix

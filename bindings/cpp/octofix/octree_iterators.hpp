@@ -15,23 +15,30 @@
 
 namespace octofix {
 
+class OcTreeBase;
+
 /// Where an iterator stands: at a node, which it has for itself. The node is good until the
 /// iterator moves.
 class OcTreePlace {
   public:
-    using iterator_category = std::forward_iterator_tag;
+    using iterator_category = std::input_iterator_tag;
     using value_type = OcTreeNode;
     using difference_type = std::ptrdiff_t;
     using pointer = OcTreeNode *;
     using reference = OcTreeNode &;
 
-    OcTreeNode &operator*() const { return node_; }
+    OcTreeNode &operator*() const & { return node_; }
+    /// Of an iterator that goes away, as that of `*it++`.
+    OcTreeNode operator*() const && { return node_; }
     OcTreeNode *operator->() const { return &node_; }
 
     unsigned getDepth() const { return node_.depth_; }
     double getSize() const { return grid_.getNodeSize(getDepth()); }
     /// The key in the middle of the block.
-    OcTreeKey getKey() const { return grid_.adjustKeyAtDepth(getIndexKey(), getDepth()); }
+    OcTreeKey getKey() const {
+        if (getDepth() == 0) return {32768, 32768, 32768};
+        return grid_.adjustKeyAtDepth(getIndexKey(), getDepth());
+    }
     /// The lowest key of the block.
     OcTreeKey getIndexKey() const { return node_.low_; }
     point3d getCoordinate() const { return grid_.keyToCoord(getIndexKey(), getDepth()); }
@@ -42,9 +49,10 @@ class OcTreePlace {
   protected:
     OcTreePlace() : grid_(1) {}
     OcTreePlace(const OcTreeGrid &grid, unsigned depth)
-        : grid_(grid), max_depth_(depth == 0 ? 16 : depth) {}
-    void stand(OcTree *tree, const OcTreeKey &first, unsigned depth, std::int32_t value) {
-        node_.tree_ = tree;
+        : grid_(grid), max_depth_(detail::walk_depth_of(depth)) {}
+    void stand(OcTreeContent *content, const OcTreeKey &first, unsigned depth,
+               std::int32_t value) {
+        node_.content_ = content;
         node_.low_ = first;
         node_.depth_ = static_cast<std::uint8_t>(depth);
         node_.value_ = value;
@@ -69,7 +77,7 @@ class OcTreeLeafIterator : public OcTreePlace {
     OcTreeLeafIterator(const OcTreeGrid &grid, std::shared_ptr<const OcTreeLeaves> leaves,
                        unsigned depth)
         : OcTreeLeafIterator(grid, std::move(leaves), depth, {0, 0, 0}, {65535, 65535, 65535}) {}
-    inline explicit OcTreeLeafIterator(const OcTree *tree, unsigned char depth = 0);
+    inline explicit OcTreeLeafIterator(const OcTreeBase *tree, unsigned char depth = 0);
 
     OcTreeLeafIterator &operator++() {
         go_on();
@@ -127,7 +135,7 @@ class OcTreeLeafIterator : public OcTreePlace {
         }
     }
     void stand_on_leaf(const OcTreeKey &first, unsigned depth) {
-        stand(leaves_->tree(), first, depth, leaf().value);
+        stand(leaves_->content(), first, depth, leaf().value);
         tell_leaf(!leaves_->are_voxels_alone() || depth == 16);
         is_past_parts_ = false;
     }
@@ -141,7 +149,7 @@ class OcTreeLeafIterator : public OcTreePlace {
             if (computeIndexKey(level, low_of(blocks[next_])) != first) break;
             largest = std::max(largest, blocks[next_].value);
         }
-        stand(leaves_->tree(), first, max_depth(), largest);
+        stand(leaves_->content(), first, max_depth(), largest);
         tell_leaf(false);
         is_past_parts_ = false;
     }
@@ -185,9 +193,9 @@ class OcTreeLeafBoxIterator : public OcTreeLeafIterator {
     OcTreeLeafBoxIterator(const OcTreeGrid &grid, std::shared_ptr<const OcTreeLeaves> leaves,
                           unsigned depth, const OcTreeKey &first, const OcTreeKey &last)
         : OcTreeLeafIterator(grid, std::move(leaves), depth, first, last) {}
-    inline OcTreeLeafBoxIterator(const OcTree *tree, const OcTreeKey &min, const OcTreeKey &max,
+    inline OcTreeLeafBoxIterator(const OcTreeBase *tree, const OcTreeKey &min, const OcTreeKey &max,
                                  unsigned char depth = 0);
-    inline OcTreeLeafBoxIterator(const OcTree *tree, const point3d &min, const point3d &max,
+    inline OcTreeLeafBoxIterator(const OcTreeBase *tree, const point3d &min, const point3d &max,
                                  unsigned char depth = 0);
     OcTreeLeafBoxIterator &operator++() {
         go_on();
@@ -203,6 +211,8 @@ class OcTreeLeafBoxIterator : public OcTreeLeafIterator {
 /// Over all nodes, each before its children. It keeps a copy of them, with whose nodes it stands.
 class OcTreeNodeIterator : public OcTreePlace {
   public:
+    using iterator_category = std::forward_iterator_tag;
+
     OcTreeNodeIterator() = default;
     OcTreeNodeIterator(const OcTreeGrid &grid, std::shared_ptr<OcTreeValues> values,
                        unsigned depth)
@@ -210,7 +220,7 @@ class OcTreeNodeIterator : public OcTreePlace {
         if (values_->root()) to_come_.push_back(values_->root());
         settle();
     }
-    inline explicit OcTreeNodeIterator(const OcTree *tree, unsigned char depth = 0);
+    inline explicit OcTreeNodeIterator(const OcTreeBase *tree, unsigned char depth = 0);
 
     OcTreeNode &operator*() const { return *to_come_.back(); }
     OcTreeNode *operator->() const { return to_come_.back(); }

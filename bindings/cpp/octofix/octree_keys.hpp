@@ -3,8 +3,10 @@
 #ifndef OCTOFIX_OCTREE_KEYS_HPP
 #define OCTOFIX_OCTREE_KEYS_HPP
 
+#include "blocks.hpp"
 #include "octree_math.hpp"
 
+#include <algorithm>
 #include <cmath>
 #include <cstddef>
 #include <cstdint>
@@ -62,15 +64,45 @@ class KeyRay {
     std::vector<OcTreeKey> keys_;
 };
 
-/// The lowest key of the block of a level that holds this one; level 0 is that of voxels.
+namespace detail {
+
+inline constexpr unsigned depth_of_voxels = 16;
+
+inline double in_metres(std::int64_t nanometres) { return static_cast<double>(nanometres) / 1e9; }
+
+/// A depth that blocks have; another one is refused.
+inline unsigned depth_of(unsigned depth) {
+    if (depth > depth_of_voxels) throw refused(OCTOFIX_BAD_DEPTH);
+    return depth;
+}
+/// The depth of a walk, of which 0 and those below voxels are that of voxels.
+inline unsigned walk_depth_of(unsigned depth) {
+    return depth == 0 ? depth_of_voxels : std::min(depth, depth_of_voxels);
+}
+
+} // namespace detail
+
+/// The lowest key of the block of a level that holds this one; level 0 is that of voxels, and from
+/// 16 on there is one block.
 inline OcTreeKey computeIndexKey(key_type level, const OcTreeKey &key) {
-    const key_type mask = static_cast<key_type>(65535u << level);
+    const key_type mask = static_cast<key_type>(65535u << std::min<unsigned>(level, 16));
     return {static_cast<key_type>(key[0] & mask), static_cast<key_type>(key[1] & mask),
             static_cast<key_type>(key[2] & mask)};
 }
 
-/// Which child of its block holds the key, by this bit of its numbers.
+namespace detail {
+
+/// The highest key of a block of a level, of which this is the lowest one.
+inline OcTreeKey last_key(const OcTreeKey &low, unsigned level) {
+    const auto last = [&](key_type k) { return static_cast<key_type>(k + (1u << level) - 1); };
+    return {last(low[0]), last(low[1]), last(low[2])};
+}
+
+} // namespace detail
+
+/// Which child of its block holds the key, by this bit of its numbers, which has 0 beyond its own.
 inline std::uint8_t computeChildIdx(const OcTreeKey &key, int bit) {
+    if (bit < 0 || bit > 15) return 0;
     return static_cast<std::uint8_t>((key[0] >> bit & 1) | (key[1] >> bit & 1) << 1 |
                                      (key[2] >> bit & 1) << 2);
 }
@@ -90,15 +122,15 @@ class OcTreeGrid {
   public:
     explicit OcTreeGrid(std::int64_t edge) : edge_(edge) {}
 
-    double getResolution() const { return static_cast<double>(edge_) / 1e9; }
+    double getResolution() const { return detail::in_metres(edge_); }
     unsigned getTreeDepth() const { return 16; }
     double getNodeSize(unsigned depth) const {
-        return getResolution() * static_cast<double>(1u << (16 - depth));
+        return getResolution() * static_cast<double>(1u << (16 - detail::depth_of(depth)));
     }
 
     bool coordToKeyChecked(double c, key_type &key) const {
         if (!(std::fabs(c) < 1e7)) return false;
-        const std::int64_t number = floored(std::llround(c * 1e9)) + 32768;
+        const std::int64_t number = number_at(c);
         if (number < 0 || number > 65535) return false;
         key = static_cast<key_type>(number);
         return true;
@@ -144,10 +176,12 @@ class OcTreeGrid {
         return adjustKeyAtDepth(coordToKey(p), depth);
     }
 
-    /// The key in the middle of the block of this depth that holds the voxel.
+    /// The key in the middle of the block of this depth that holds the voxel; for that of the whole
+    /// map 0, as the OctoMap library has it.
     key_type adjustKeyAtDepth(key_type key, unsigned depth) const {
-        const unsigned level = 16 - depth;
+        const unsigned level = 16 - detail::depth_of(depth);
         if (level == 0) return key;
+        if (level == 16) return 0;
         return static_cast<key_type>((key >> level << level) + (1 << (level - 1)));
     }
     OcTreeKey adjustKeyAtDepth(const OcTreeKey &key, unsigned depth) const {
@@ -157,7 +191,7 @@ class OcTreeGrid {
 
     /// The middle of a voxel, or of the block of this depth that holds it.
     double keyToCoord(key_type key, unsigned depth = 16) const {
-        const int level = static_cast<int>(16 - depth), half = 32768 >> level;
+        const int level = static_cast<int>(16 - detail::depth_of(depth)), half = 32768 >> level;
         return ((key >> level) - half + (depth == 0 ? 0.0 : 0.5)) * getNodeSize(depth);
     }
     point3d keyToCoord(const OcTreeKey &key, unsigned depth = 16) const {
@@ -168,9 +202,13 @@ class OcTreeGrid {
 
   protected:
     std::int64_t edge() const { return edge_; }
-    /// The coordinate of a voxel's middle, in nanometres.
-    std::int64_t middle(key_type key) const {
-        return (std::int64_t{key} - 32768) * edge_ + edge_ / 2;
+    /// The number of the voxels at a coordinate, which may lie beyond the keys.
+    std::int64_t number_at(double c) const {
+        return floored(std::llrint(std::fmax(-1e16, std::fmin(1e16, c * 1e9)))) + 32768;
+    }
+    /// The point in a voxel's middle.
+    point middle_of(const OcTreeKey &key) const {
+        return detail::point_of({key[0], key[1], key[2]}, edge_);
     }
 
   private:

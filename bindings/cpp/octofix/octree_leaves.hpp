@@ -11,7 +11,7 @@
 
 namespace octofix {
 
-class OcTree;
+class OcTreeContent;
 
 namespace detail {
 
@@ -37,13 +37,13 @@ struct listed_blocks {
 /// The leaves in Morton order. Where voxels alone are wanted, each leaf is shown as its voxels.
 class OcTreeLeaves {
   public:
-    OcTreeLeaves(OcTree *tree, detail::listed_blocks blocks, bool voxels_alone)
-        : tree_(tree), owned_(std::move(blocks)), blocks_(owned_.first.get(), owned_.count),
+    OcTreeLeaves(OcTreeContent *content, detail::listed_blocks blocks, bool voxels_alone)
+        : content_(content), owned_(std::move(blocks)), blocks_(owned_.first.get(), owned_.count),
           voxels_alone_(voxels_alone) {}
     OcTreeLeaves(const OcTreeLeaves &) = delete;
     OcTreeLeaves &operator=(const OcTreeLeaves &) = delete;
 
-    OcTree *tree() const { return tree_; }
+    OcTreeContent *content() const { return content_; }
     view<block> blocks() const { return blocks_; }
     bool are_voxels_alone() const { return voxels_alone_; }
     /// Counts the voxels of each leaf in place of it.
@@ -56,7 +56,7 @@ class OcTreeLeaves {
     }
 
   private:
-    OcTree *tree_;
+    OcTreeContent *content_;
     detail::listed_blocks owned_;
     view<block> blocks_;
     bool voxels_alone_;

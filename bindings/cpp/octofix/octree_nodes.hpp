@@ -7,11 +7,19 @@
 #include "octree_keys.hpp"
 
 #include <array>
+#include <cmath>
+#include <cstddef>
+#include <cstdint>
 #include <deque>
+#include <ostream>
+#include <stdexcept>
+#include <string>
+#include <utility>
+#include <vector>
 
 namespace octofix {
 
-class OcTree;
+class OcTreeContent;
 
 namespace detail {
 
@@ -19,7 +27,10 @@ namespace detail {
 inline std::int32_t thousandths(float logodds) {
     if (std::isnan(logodds)) throw refused(OCTOFIX_BAD_ARGUMENT);
     const double held = std::fmax(-1000.0, std::fmin(1000.0, logodds));
-    return static_cast<std::int32_t>(std::lround(held * 1000));
+    return static_cast<std::int32_t>(std::lrint(held * 1000));
+}
+inline float in_log_odds(std::int32_t thousandths) {
+    return static_cast<float>(thousandths) / 1000.0f;
 }
 
 } // namespace detail
@@ -37,7 +48,7 @@ class OcTreeNode {
   public:
     using DataType = float;
 
-    float getLogOdds() const { return static_cast<float>(value_) / 1000.0f; }
+    float getLogOdds() const { return detail::in_log_odds(value_); }
     float getValue() const { return getLogOdds(); }
     double getOccupancy() const { return probability(getLogOdds()); }
     inline void setLogOdds(float logodds);
@@ -48,11 +59,12 @@ class OcTreeNode {
     bool operator==(const OcTreeNode &other) const { return value_ == other.value_; }
 
   private:
-    friend class OcTree;
+    friend class OcTreeContent;
+    friend class OcTreeOccupancy;
     friend class OcTreeValues;
     friend class OcTreePlace;
 
-    OcTree *tree_ = nullptr;
+    OcTreeContent *content_ = nullptr; // that an edit of it changes; none of one made by itself
     std::array<OcTreeNode, 8> *children_ = nullptr;
     std::int32_t value_ = 0; // in thousandths: the largest one in the block
     OcTreeKey low_;
@@ -61,13 +73,34 @@ class OcTreeNode {
     bool is_leaf_ = false; // has no children, whatever the map has
 };
 
+namespace detail {
+
+/// The nodes that a thread was lent. Each stays while at least so many more are lent.
+class lent_nodes {
+  public:
+    OcTreeNode *keep(const OcTreeNode &node) {
+        if (last_.size() == last_.capacity()) {
+            before_ = std::move(last_);
+            last_ = {};
+            last_.reserve(at_least);
+        }
+        return &last_.emplace_back(node);
+    }
+
+  private:
+    static constexpr std::size_t at_least = 4096;
+    std::vector<OcTreeNode> before_, last_;
+};
+
+} // namespace detail
+
 /// The values of a map as a tree that stands still.
 class OcTreeValues {
   public:
     /// Of leaves in Morton order. Where voxels alone are wanted, each leaf is parted into them.
-    OcTreeValues(OcTree *tree, view<block> leaves, bool voxels_alone)
+    OcTreeValues(OcTreeContent *content, view<block> leaves, bool voxels_alone)
         : voxels_alone_(voxels_alone) {
-        root_.tree_ = tree;
+        root_.content_ = content;
         const block *next = leaves.data();
         if (!leaves.empty()) grow(root_, next, next + leaves.size());
     }
@@ -86,8 +119,21 @@ class OcTreeValues {
         return node;
     }
     static OcTreeNode *known(OcTreeNode &node) { return node.is_known_ ? &node : nullptr; }
+    /// Writes the nodes as .ot files have them: each a float, a byte of children, and these.
+    void write(std::ostream &out) {
+        if (const OcTreeNode *node = root()) write_node(out, *node);
+    }
 
   private:
+    static void write_node(std::ostream &out, const OcTreeNode &node) {
+        detail::put_number(out, node.getLogOdds());
+        unsigned known = 0;
+        for (unsigned i = 0; node.children_ && i < 8; ++i)
+            known |= (*node.children_)[i].is_known_ ? 1u << i : 0u;
+        out.put(static_cast<char>(known));
+        for (unsigned i = 0; i < 8; ++i)
+            if ((known >> i & 1) != 0) write_node(out, (*node.children_)[i]);
+    }
     static bool is_within(const block &leaf, const OcTreeNode &node) {
         const voxel_key first = low(leaf);
         const OcTreeKey there(first.x, first.y, first.z);
@@ -99,7 +145,7 @@ class OcTreeValues {
         node.children_ = &children;
         const unsigned half = 1u << (15 - node.depth_);
         for (unsigned i = 0; i < 8; ++i) {
-            children[i].tree_ = node.tree_;
+            children[i].content_ = node.content_;
             children[i].depth_ = static_cast<std::uint8_t>(node.depth_ + 1);
             for (unsigned axis = 0; axis < 3; ++axis)
                 children[i].low_[axis] = static_cast<key_type>(

@@ -1,8 +1,6 @@
 // What octofix::OcTree and its points, poses and clouds answer beside the OctoMap library, on the
 // same calls: each test writes what it sees for one library, and the two texts have to be the same.
-#include <octofix_octree.hpp>
-#include <octomap/OcTree.h>
-#include <octomap/octomap.h>
+#include "both_libraries.hpp"
 
 #include <cstdio>
 #include <iomanip>
@@ -13,50 +11,6 @@
 #include <string>
 
 namespace {
-
-struct Mine {
-    using Tree = octofix::OcTree;
-    using Node = octofix::OcTreeNode;
-    using Key = octofix::OcTreeKey;
-    using Point = octofix::point3d;
-    using Pose = octofix::pose6d;
-    using Turn = octofix::Quaternion;
-    using Cloud = octofix::Pointcloud;
-    using Keys = octofix::KeySet;
-    static Key child(unsigned pos, octofix::key_type offset, const Key &parent) {
-        Key key;
-        octofix::computeChildKey(pos, offset, parent, key);
-        return key;
-    }
-};
-
-struct Theirs {
-    using Tree = octomap::OcTree;
-    using Node = octomap::OcTreeNode;
-    using Key = octomap::OcTreeKey;
-    using Point = octomap::point3d;
-    using Pose = octomap::pose6d;
-    using Turn = octomath::Quaternion;
-    using Cloud = octomap::Pointcloud;
-    using Keys = octomap::KeySet;
-    static Key child(unsigned pos, octomap::key_type offset, const Key &parent) {
-        Key key;
-        octomap::computeChildKey(pos, offset, parent, key);
-        return key;
-    }
-};
-
-/// A tree with the log-odds that both have.
-template <class L> struct Even : L::Tree {
-    explicit Even(double res = 0.1) : L::Tree(res) {
-        this->setProbHit(0.7);
-        this->setProbMiss(0.4);
-    }
-};
-
-template <class Key> std::string text_of(const Key &key) {
-    return std::to_string(key[0]) + ' ' + std::to_string(key[1]) + ' ' + std::to_string(key[2]);
-}
 
 /// The known voxels, each with whether it is occupied.
 template <class Tree> std::string classes_of(Tree &tree) {

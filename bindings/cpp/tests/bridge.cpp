@@ -195,6 +195,31 @@ void try_ot_files(const std::string &folder) {
     EXPECT(refusal(whole.substr(0, data - 9) + "-0.1\ndata\n") == "BadField");
 }
 
+/// A stream that can't go back, as a pipe, is read whole.
+void try_pipes() {
+    class pipe : public std::stringbuf {
+      public:
+        using std::stringbuf::stringbuf;
+
+      protected:
+        pos_type seekoff(off_type, std::ios_base::seekdir, std::ios_base::openmode) override {
+            return pos_type(off_type(-1));
+        }
+        pos_type seekpos(pos_type, std::ios_base::openmode) override {
+            return pos_type(off_type(-1));
+        }
+    };
+    octomap::OcTree tree(0.1);
+    for (int i = 0; i < 9; ++i) tree.updateNode(octomap::point3d(0.1f * i, 0, 0), i % 2 == 0);
+    std::ostringstream file;
+    EXPECT(tree.write(file));
+    pipe whole(file.str()), cut(file.str().substr(0, file.str().size() - 1)), none("");
+    std::istream in(&whole), short_in(&cut), empty(&none);
+    EXPECT(are_same(octofix::read_ot(in), octofix::from_octomap(tree)));
+    EXPECT(name_of([&] { octofix::read_ot(short_in); }) == "Truncated");
+    EXPECT(name_of([&] { octofix::read_ot(empty); }) == "NotOctomap");
+}
+
 /// A program whose locale has a comma, in C and in C++, reads files as others do.
 void try_locales(const std::string &folder) {
     const std::string path = folder + "/map.ot";
@@ -220,6 +245,7 @@ int main(int count, char **words) {
     try_far_odds();
     try_refusals();
     try_ot_files(words[1]);
+    try_pipes();
     try_locales(words[1]);
     std::printf("bridge: %d failed\n", failed);
     return failed != 0;

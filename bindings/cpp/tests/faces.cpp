@@ -75,9 +75,9 @@ void try_lengths() {
     const double nan = std::numeric_limits<double>::quiet_NaN();
     const double infinity = std::numeric_limits<double>::infinity();
     EXPECT(octofix::nanometres(0.1) == 100000000);
-    EXPECT(octofix::nanometres(0.0000000005) == 1); // halves away from zero
-    EXPECT(octofix::nanometres(-0.0000000005) == -1);
-    EXPECT(octofix::nanometres(0.0000000004) == 0);
+    EXPECT(octofix::nanometres(0.0000000005) == 0); // halves go to the even number
+    EXPECT(octofix::nanometres(-0.0000000015) == -2 && octofix::nanometres(2.5e-9) == 2);
+    EXPECT(octofix::nanometres(0.0000000006) == 1 && octofix::nanometres(0.0000000004) == 0);
     EXPECT(index_of([] { return octofix::nanometres(1e7); }) == 0);
     EXPECT(index_of([&] { return metres(0, 0, nan); }) == 0);
     const double row[] = {0, 0, 0, 1, 1, 1, 0, -infinity, 0};
@@ -113,6 +113,27 @@ void try_lengths() {
     EXPECT(octofix::probability_of(std::numeric_limits<std::int32_t>::min()) == 0);
     EXPECT(octofix::probability_of(std::numeric_limits<std::int32_t>::max()) == 1);
 }
+
+/// The edge of a voxel that is a float stands for the decimal that it prints.
+void try_floats() {
+    octofix::map world(0.05f);
+    EXPECT(world.settings().res == 50000000 && octofix::map(0.1f).settings().res == 100000000);
+    EXPECT(octofix::map(0.123456f).settings().res == 123456000);
+    EXPECT(octofix::OcTree(0.05f).getResolution() == 0.05);
+    EXPECT(octofix::ray(0.05f, metres(0, 0, 0), metres(6553.5 / 4, 0, 0)).size() == 32768);
+    EXPECT(octofix::map(0.05).settings().res == 50000000 && octofix::map(1).resolution() == 1);
+    const float nan = std::numeric_limits<float>::quiet_NaN();
+    EXPECT(!text_of([&] { octofix::map none(nan); }).empty());
+    EXPECT(metres(0.1f, 0, 0).x == 100000001); // of a coordinate all its digits count
+}
+
+// Elements of another size than those that a call reads are none of its own.
+struct bigger_point : octofix::point {
+    double intensity;
+};
+static_assert(!std::is_convertible_v<std::vector<bigger_point>, octofix::view<octofix::point>>);
+static_assert(!std::is_convertible_v<std::array<bigger_point, 2>, octofix::view<octofix::point>>);
+static_assert(std::is_convertible_v<std::vector<octofix::point>, octofix::view<octofix::point>>);
 
 /// What an organised cloud has where its sensor saw nothing may be left out; its indices stay.
 void try_unfinite() {
@@ -217,6 +238,8 @@ void try_refusals() {
            "refused 13 MissingField data");
     EXPECT(std::string(octofix::refused(OCTOFIX_BAD_FIELD, {1, 0}).what()) ==
            "refused 14 BadField res");
+    EXPECT(std::string(octofix::refused(OCTOFIX_WIDE_GRID, {67108865, 0}).what()) ==
+           "refused 38 WideGrid count 67108865");
     try_bad_arguments(world);
     EXPECT(code_of([&] { return world.get(far); }) == OCTOFIX_OUTSIDE);
     EXPECT(code_of([&] { return world.leaves(near, metres(0, 0, 0)); }) == OCTOFIX_BAD_BOX);
@@ -256,6 +279,7 @@ void try_files(const std::filesystem::path &folder) {
     other.restore_from(folder / "world.snap");
     EXPECT(other.get(metres(1, 2, 3)) == 700);
     EXPECT(other.window().has_value());
+    EXPECT(world.copy().snapshot() == world.snapshot());
     EXPECT(world.clone().snapshot() == world.snapshot());
     EXPECT(is_file_error([&] { other.load_from(folder / "missing.bt"); }));
     EXPECT(is_file_error([&] { other.load_from(folder); }));
@@ -323,6 +347,14 @@ void try_keys() {
     const octofix::point outside[] = {{low, 0, 0}, {0, high, 0}, {0, 0, 3276800000000}};
     for (const octofix::point &it : outside)
         EXPECT(code_of([&] { return world.key_of(it); }) == OCTOFIX_OUTSIDE);
+    const octofix::point points[] = {metres(0.25, 0, -0.01), metres(-3276.8, 3276.79, 0)};
+    const auto keys = world.keys(points);
+    EXPECT(keys.size() == 2 && is(keys[0], 32770, 32768, 32767) && is(keys[1], 0, 65535, 32768));
+    EXPECT(code_of([&] { return world.keys(outside); }) == OCTOFIX_OUTSIDE);
+    const auto centers = world.centers(keys);
+    EXPECT(centers.size() == 2 && centers[0] == world.center(keys[0]));
+    EXPECT(world.center(keys[1]) == world.middle(keys[1]));
+    EXPECT(std::fabs(centers[0][0] - 0.25) < 1e-12 && std::fabs(centers[1][1] - 3276.75) < 1e-9);
 }
 
 void try_models() {
@@ -540,6 +572,7 @@ void try_threads() {
 
 int main(int, char **words) {
     try_lengths();
+    try_floats();
     try_unfinite();
     try_turns();
     try_far_points();

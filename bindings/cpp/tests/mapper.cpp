@@ -141,6 +141,24 @@ void try_same_maps() {
     }
 }
 
+/// Sensors that are turned in double, scans that are done in parts, and each way to say how many
+/// threads there are to be.
+void try_turned_and_parted() {
+    std::mt19937 random(11);
+    const auto points = cloud(random, 300);
+    const auto sensor = octofix::turned(metres(0.4, -0.3, 1), 0.9, 0.1, -0.2, 0.3);
+    octofix::scan_options near;
+    near.range = 4;
+    octofix::map one(0.1);
+    one.scan(sensor, points, near), one.scan(sensor, points);
+    const octofix::limits few_cells = {1 << 20, 500};
+    octofix::mapper two(0.1, 2), exact(0.1f, octofix::default_odds, few_cells, 3, 100);
+    for (octofix::mapper *it : {&two, &exact}) {
+        it->add(sensor, points, near), it->add(sensor, points);
+        EXPECT(it->finish().snapshot() == one.snapshot());
+    }
+}
+
 /// Scans are refused for the same reasons, also between others, and what comes is the same, noted
 /// under a mark too.
 void try_same_refusals() {
@@ -286,6 +304,7 @@ void try_ends() {
 
 int main() {
     try_same_maps();
+    try_turned_and_parted();
     try_same_refusals();
     try_crew();
     try_last_tasks();
