@@ -14,8 +14,8 @@ import octofix
 import rosbag
 import rosgraph
 import rospy
-from geometry_msgs.msg import TransformStamped
-from messages import Octomap
+from geometry_msgs.msg import Point, TransformStamped
+from messages import BoundingBoxQuery, GetOctomap, Octomap, nodes_of
 from nav_msgs.msg import OccupancyGrid
 from sensor_msgs.msg import PointCloud2, PointField
 from std_srvs.srv import Empty, Trigger
@@ -37,6 +37,7 @@ LAUNCH = """<launch>
     <param name="publish_free_space" value="true"/>
     <param name="file" value="{file}"/>
     <param name="period" value="0.2"/>
+    <param name="patience" value="8.0"/>
     <remap from="cloud_in" to="/narrow_stereo/points_filtered2"/>
   </node>
 </launch>
@@ -197,8 +198,10 @@ class Server(unittest.TestCase):
             self.assertTrue(until(lambda: len(self.heard) == len(TOPICS)))
             time.sleep(0.5)
             self.octomap(world)
+            self.full_octomap(world)
             self.grid(world)
             self.cells(world)
+            self.cleared(world)
         self.assertIn("1 clouds aren't mapped; the last one: no pose for", self.said())
         rospy.ServiceProxy("/octomap_server/reset", Empty)()
         self.assertTrue(until(lambda: not self.heard["/octomap_binary"].data.size))
@@ -214,6 +217,38 @@ class Server(unittest.TestCase):
         self.assertEqual((message.binary, message.id, message.resolution), (True, "OcTree", 0.1))
         self.assertEqual(message.header.frame_id, "odom")
         self.assertEqual(message._md5sum, "9a45536b45c5e409cd49f04bb2d9999f")
+
+    def full_octomap(self, world):
+        """Who begins to listen late gets the tree with its values, and so does who asks for it."""
+        heard = []
+        rospy.Subscriber("/octomap_full", Octomap, heard.append)
+        self.assertTrue(until(lambda: heard))
+        asked = rospy.ServiceProxy("/octomap_full", GetOctomap)().map
+        wanted = nodes_of(world.leaves()).tobytes()
+        for message in (heard[0], asked):
+            self.assertEqual((message.binary, message.id), (False, "OcTree"))
+            self.assertEqual(bytes(np.int8(message.data)), wanted)
+        binary = rospy.ServiceProxy("/octomap_binary", GetOctomap)().map
+        self.assertTrue(binary.binary)
+        self.assertEqual(bytes(np.int8(binary.data)), world.to_bt().split(b"\ndata\n", 1)[1])
+        self.assertEqual(GetOctomap._md5sum, "be9d2869d24fe40d6bc21ac21f6bb2c5")
+        self.assertEqual(BoundingBoxQuery._md5sum, "93aa3d73b866f04880927745f4aab303")
+
+    def cleared(self, world):
+        """What is known in a box is free, and all else as before; a box that is none is refused."""
+        clear = rospy.ServiceProxy("/octomap_server/clear_bbx", BoundingBoxQuery)
+        low, high = (0.5, -9000, 0.1), (9000, 0.25, 1.0)
+        with self.assertRaises(rospy.ServiceException):
+            clear(Point(*high), Point(*low))
+        clear(Point(*low), Point(*high))
+        centers = world.centers(world.voxels("known"))
+        above, below = centers > (0.5, -9000, 0.1), centers < (9000, 0.3, 1.1)
+        inside = (above & below).all(axis=1)
+        world.set(centers[inside], world.odds.min)
+        self.assertGreater(inside.sum(), 100)
+        self.assertTrue(until(lambda: self.saved() == world.to_bt()))
+        asked = rospy.ServiceProxy("/octomap_full", GetOctomap)().map
+        self.assertEqual(bytes(np.int8(asked.data)), nodes_of(world.leaves()).tobytes())
 
     def grid(self, world):
         """Each square has the greatest class of its column from 0.3 to 1.5 m."""
@@ -240,6 +275,7 @@ class Server(unittest.TestCase):
         np.testing.assert_allclose(points, leaves.centers()[is_occupied], atol=1e-5)
         for name, kind in (("occupied", is_occupied), ("free", ~is_occupied)):
             markers = self.heard[f"/{name}_cells_vis_array"].markers
+            self.assertEqual([it.id for it in markers], list(range(17)))
             volume = sum(len(it.points) * it.scale.x**3 for it in markers)
             self.assertAlmostEqual(volume, (leaves.sizes()[kind] ** 3).sum(), places=6)
 
