@@ -1,9 +1,10 @@
-"""Builds the wheel and the sdist of this package, by the standard library alone.
+"""Builds the wheel and the sdist of this package, by the standard library and a C compiler alone.
 
-pip calls the functions of a build backend that stand last. The wheel has the library where one is
-found as the package itself would find it, as a file; where only the system's loader finds it, the
-package will find it that way too; and without any library nothing is built. A release calls
-`write_wheel` with the files and the tags that it knows.
+pip calls the functions of a build backend that stand last. The module is compiled here, and the
+wheel has the library where one is found as the package itself would find it, as a file; where only
+the system's loader finds it, the package will find it that way too; and without any library, or
+without what it takes to compile, nothing is built. A release calls `write_wheel` with the files and
+the tags that it knows.
 """
 
 import base64
@@ -12,7 +13,9 @@ import io
 import os
 import re
 import sys
+import sysconfig
 import tarfile
+import tempfile
 import time
 import zipfile
 from pathlib import Path
@@ -22,10 +25,14 @@ try:
 except ImportError:
     import tomli as tomllib
 
+import octofix_compile
+
 HERE = Path(__file__).resolve().parent
 LIBRARY = "liboctofix.so.1"
 COMMAND = "octofix.sh"
-PURE, BOUND = "py3-none-any", "py3-none-linux_x86_64"
+MODULE = f"octofix/{octofix_compile.NAME}"
+# One module serves each Python from 3.9 on; one that leads to a folder is for none.
+TAG, PURE = "cp39-abi3", "py3-none-any"
 # The time of a file where nothing says one: the first that a zip archive can have.
 EARLIEST = 315532800
 
@@ -36,11 +43,29 @@ def project():
         return tomllib.load(file)["project"]
 
 
-def package_files(folder=None):
-    """The package's files by their names, each as (mode, bytes)."""
-    folder = Path(folder or HERE / "octofix")
+def files_below(folder, top):
+    """The files below a folder by their names under another one, each as (mode, bytes)."""
     found = sorted(it for it in folder.rglob("*") if it.is_file() and "__pycache__" not in it.parts)
-    return {f"octofix/{it.relative_to(folder)}": (0o644, it.read_bytes()) for it in found}
+    return {f"{top}/{it.relative_to(folder)}": (0o644, it.read_bytes()) for it in found}
+
+
+def package_files(folder=None):
+    """The package's files, without what is compiled where they are the sources."""
+    if folder:
+        return files_below(Path(folder), "octofix")
+    found = files_below(HERE / "octofix", "octofix")
+    return {name: it for name, it in found.items() if not name.endswith(".so")}
+
+
+def compiled():
+    """The bytes of the module; what lacks for it is told in one line."""
+    with tempfile.TemporaryDirectory() as room:
+        made = Path(room, octofix_compile.NAME)
+        try:
+            octofix_compile.compile_to(made)
+        except octofix_compile.Unfit as why:
+            refuse(why)
+        return made.read_bytes()
 
 
 def found_library():
@@ -71,18 +96,21 @@ def licenses():
     return {"LICENSE": it.read_text("utf-8") for it in places if it.is_file()}
 
 
-def metadata(version=None):
-    """The text of METADATA, of the project's version where none is given."""
+def metadata(version=None, has_licenses=True):
+    """The text of METADATA, of the project's version where none is given; the license stands beside
+    it unless it is said that none does."""
     about = project()
     lines = [
-        "Metadata-Version: 2.1",
+        # (the first version that has License-File)
+        "Metadata-Version: 2.4",
         f"Name: {about['name']}",
         f"Version: {version or about['version']}",
         f"Summary: {about['description']}",
         f"Keywords: {','.join(about['keywords'])}",
-        f"License: {about['license']['text']}",
-        *(f"License-File: {it}" for it in licenses()),
+        f"License-Expression: {about['license']}",
+        *(f"License-File: {it}" for it in licenses() if has_licenses),
         *(f"Classifier: {it}" for it in about["classifiers"]),
+        *(f"Project-URL: {name}, {url}" for name, url in about.get("urls", {}).items()),
         f"Requires-Python: {about['requires-python']}",
         *(f"Requires-Dist: {it}" for it in about["dependencies"]),
     ]
@@ -126,7 +154,7 @@ def write_wheel(folder, files, tags, version=None, more=(), seconds=EARLIEST):
         "METADATA": metadata(version),
         "WHEEL": head + "".join(f"Tag: {it}\n" for it in tags),
         "entry_points.txt": f"[console_scripts]\n{scripts}",
-        **licenses(),
+        **{f"licenses/{name}": text for name, text in licenses().items()},
         **dict(more),
     }
     command = f"octofix-{version}.data/scripts/octofix"
@@ -142,14 +170,20 @@ def write_wheel(folder, files, tags, version=None, more=(), seconds=EARLIEST):
 def build_wheel(wheel_directory, config_settings=None, metadata_directory=None):
     """A wheel with the library that is found, or without one where the system has it."""
     library, files = found_library(), package_files()
+    files[MODULE] = 0o755, compiled()
     if library:
         files[f"octofix/{LIBRARY}"] = 0o755, library.read_bytes()
-    return write_wheel(wheel_directory, files, [BOUND if library else PURE])
+    platform = re.sub(r"\W", "_", sysconfig.get_platform())
+    return write_wheel(wheel_directory, files, [f"{TAG}-{platform}"])
 
 
 def build_editable(wheel_directory, config_settings=None, metadata_directory=None):
     """A wheel that leads to this folder, whose package looks for the library when it runs."""
     found_library()
+    try:
+        octofix_compile.make_in_place()
+    except octofix_compile.Unfit as why:
+        refuse(why)
     files = {"octofix.pth": (0o644, f"{HERE}\n".encode())}
     return write_wheel(wheel_directory, files, [PURE])
 
@@ -157,8 +191,9 @@ def build_editable(wheel_directory, config_settings=None, metadata_directory=Non
 def build_sdist(sdist_directory, config_settings=None):
     """The sources of the package, of which pip builds a wheel where there is a library."""
     top = f"octofix-{project()['version']}"
-    files = package_files()
-    for it in ("pyproject.toml", "README.md", "octofix_build.py", COMMAND):
+    files = {**package_files(), **files_below(HERE / "native", "native")}
+    files["native/octofix.h"] = 0o644, octofix_compile.header().read_bytes()
+    for it in ("pyproject.toml", "README.md", "octofix_build.py", "octofix_compile.py", COMMAND):
         files[it] = 0o644, (HERE / it).read_bytes()
     for it, text in {"PKG-INFO": metadata(), **licenses()}.items():
         files[it] = 0o644, text.encode()

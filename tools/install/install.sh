@@ -1,15 +1,17 @@
 #!/bin/sh
 # Installs the program and the library, once they are built, and says what stands where.
 #
-#     tools/install/install.sh HOW PREFIX PROGRAM ARCHIVE VERSION [LAYOUT]
+#     tools/install/install.sh HOW PREFIX PROGRAM ARCHIVE VERSION [LAYOUT [MODULE]]
 #
 # HOW is proved or unproved; what isn't proved gets names of its own. ARCHIVE is what the kit made
 # of the library, and VERSION what the installed command answers to --version. LAYOUT is debian
-# where PREFIX is the folder usr of Debian; else all finds its files from where it stands.
+# where PREFIX is the folder usr of Debian; else, with none or prefix, all finds its files from where
+# it stands. MODULE is the compiled module of the Python package; else it is compiled here, and where
+# it can't be, the package and its tools aren't installed.
 
 root=$(dirname -- "$(readlink -f -- "$0")")/../.. && . "$root/tools/install/words.sh" || exit 1
 parts=$root/tools/install
-how=$1 program=$3 archive=$4 version=$5
+how=$1 program=$3 archive=$4 version=$5 module=${7-}
 suffix=
 [ "$how" = proved ] || suffix=-unproved
 number=$(printf '%s\n' "$version" | sed -n '1s/^octomap \([^ ]*\).*/\1/p')
@@ -96,22 +98,41 @@ put_library() {
     put_filled 644 "$parts/version.cmake" "$cmake/octofix${suffix}ConfigVersion.cmake"
 }
 
+# A Python that can do this, or nothing.
+python_that_can() {
+    for it in python3 /usr/bin/python3; do
+        "$it" -c "$1" 2>/dev/null && echo "$it" && return
+    done
+}
+
+# Puts the module into the room, or says why there is none.
+compile_module() {
+    python=$(python_that_can 'import sys; sys.exit(sys.version_info < (3, 9))')
+    if [ -n "$module" ]; then
+        cp -- "$module" "$room/module"
+    elif [ -z "$python" ]; then
+        why='octofix: no python3 from 3.9 on is here'
+        return 1
+    else
+        why=$("$python" "$root/bindings/python/octofix_compile.py" "$room/module" 2>&1)
+    fi
+}
+
 put_package() {
-    put_all "$root/bindings/python/octofix" "$packages/octofix"
+    put_all "$root/bindings/python/octofix" "$packages/octofix" ! -name '*.so'
+    put 644 "$room/module" "$packages/octofix/_native.abi3.so"
     put_filled 755 "$parts/tools.py" "bin/octofix$suffix"
     put 644 "$root/bindings/cpp/octofix_ot.cpp" share/octofix/octofix_ot.cpp
 }
 
 # The man page and the completions of the tools are made of what these say of their own words.
 put_tool_words() {
-    for python in python3 /usr/bin/python3 ''; do
-        "$python" -c 'import numpy' 2>/dev/null && break
-    done
+    python=$(python_that_can 'import numpy')
     if [ -z "$python" ]; then
         say 'octofix gets no man page and no completions: no python3 with numpy is here'
         return
     fi
-    OCTOFIX_LIBRARY=$prefix/$lib/liboctofix$suffix.so.1 \
+    OCTOFIX_LIBRARY=$prefix/$lib/liboctofix$suffix.so.1 PYTHONPATH=$prefix/$packages \
         "$python" "$parts/write_tool_words.py" "$room/words" || exit 1
     put 644 "$room/words/octofix.1" share/man/man1/octofix.1
     put 644 "$room/words/octofix.bash" "share/bash-completion/completions/octofix$suffix"
@@ -130,6 +151,13 @@ line() {
     printf '  %-34s %s\n' "$1" "$2"
 }
 
+tell_of_package() {
+    line lib/python3/octofix "the Python package: export PYTHONPATH='$prefix/lib/python3'"
+    [ "$how" = proved ] ||
+        line '' "with OCTOFIX_LIBRARY='$prefix/lib/liboctofix$suffix.so.1'"
+    line "bin/octofix$suffix" 'its tools'
+}
+
 tell() {
     printf 'octomap: installed in %s:\n' "$prefix"
     line "bin/octomap$suffix" "the program, $how"
@@ -137,10 +165,7 @@ tell() {
     line 'include/octofix.h, .hpp' 'its headers for C and C++, and octofix_octree.hpp'
     line "lib/pkgconfig/octofix$suffix.pc" "pkg-config --cflags --libs octofix$suffix"
     line "lib/cmake/octofix$suffix" "find_package(octofix$suffix)"
-    line lib/python3/octofix "the Python package: export PYTHONPATH='$prefix/lib/python3'"
-    [ "$how" = proved ] ||
-        line '' "with OCTOFIX_LIBRARY='$prefix/lib/liboctofix$suffix.so.1'"
-    line "bin/octofix$suffix" 'its tools'
+    [ -z "$has_package" ] || tell_of_package
     line 'share/man, share/doc/octofix' 'man pages, and documents'
     line 'share/bash-completion, share/zsh' 'completions of all words'
     case :$PATH: in
@@ -151,7 +176,13 @@ tell() {
 
 put_program
 put_library
-put_package
-put_tool_words
+has_package=
+if compile_module; then
+    has_package=yes
+    put_package
+    put_tool_words
+else
+    say "the Python package and its tools aren't installed: ${why#octofix: }"
+fi
 put_documents
 tell

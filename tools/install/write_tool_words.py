@@ -3,9 +3,9 @@
 
     write_tool_words.py FOLDER
 
-writes FOLDER/octofix.1, octofix.bash and _octofix (for zsh). Needs numpy, and OCTOFIX_LIBRARY or
-another place where the package finds the library. The page is as old as the newest version in
-CHANGELOG.md.
+writes FOLDER/octofix.1, octofix.bash and _octofix (for zsh). Needs numpy, the package on PYTHONPATH,
+and OCTOFIX_LIBRARY or another place where that finds the library. The page is as old as the newest
+version in CHANGELOG.md.
 """
 
 import re
@@ -16,13 +16,12 @@ import tool_completions
 import tool_manual
 from tool_words import commands_of, statuses_of
 
+from octofix.tools import command
+
 ROOT = Path(__file__).resolve().parents[2]
 MONTHS = (
     "January February March April May June July August September October November December"
 ).split()
-sys.path.insert(0, str(ROOT / "bindings/python"))
-
-from octofix.tools import command  # noqa: E402
 
 
 def date():

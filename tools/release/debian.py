@@ -102,9 +102,9 @@ PACKAGES = [
         ["static-library-has-unneeded-sections *"],
     ),
     Package(
-        "python3-octofix", "all", "python", [f"{PYTHON}/*"], "Python",
+        "python3-octofix", "amd64", "python", [f"{PYTHON}/*"], "Python",
         "This package has the package for Python.",
-        ["Depends: liboctofix1 (= {version}-1), python3 (>= 3.9), python3:any, "
+        ["Depends: libc6 (>= {module}), liboctofix1 (= {version}-1), python3 (>= 3.9), "
          "python3-numpy (>= 1:1.21)", "Recommends: python3-pil",
          "Suggests: python3-scipy, python3-tqdm, python3-rosbag"],
         {"postinst": COMPILE, "prerm": CLEAN},
@@ -158,7 +158,7 @@ def words_of(release):
 def add_metadata(tree, release):
     """What tells Python which version of the package is there."""
     info = f"{PYTHON}/octofix-{release.version}.dist-info"
-    tree.put(f"{info}/METADATA", octofix_build.metadata(release.version))
+    tree.put(f"{info}/METADATA", octofix_build.metadata(release.version, has_licenses=False))
     tree.put(f"{info}/INSTALLER", "debian\n")
 
 

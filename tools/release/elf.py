@@ -2,6 +2,7 @@
 
 import re
 import subprocess
+from pathlib import Path
 
 # The kit's mark of a proof, in the section .comment.
 LOGIC = re.compile(rb"rattle logic=([0-9a-f]{64})\0")
@@ -17,6 +18,7 @@ class Elf:
     """A program or a shared library."""
 
     def __init__(self, file):
+        self.name = Path(file).name
         words = ["readelf", "--wide", "--dynamic", "--dyn-syms", file]
         self.said = subprocess.run(words, check=True, capture_output=True, text=True).stdout
 

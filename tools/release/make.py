@@ -31,25 +31,27 @@ sys.dont_write_bytecode = True  # (the clone stays as it is)
 sys.path.insert(0, str(ROOT / "bindings/python"))
 
 import debian  # noqa: E402
+import octofix_compile  # noqa: E402
 import tarball  # noqa: E402
 import wheel  # noqa: E402
 from release import Release, Sources, Unfit, check_folder, check_tools, run  # noqa: E402
 
 
-def install(prefix, program, archive, version, *layout):
+def install(prefix, program, archive, version, layout, module):
     words = [ROOT / "tools/install/install.sh", "proved", prefix, program, archive, version]
-    run(*words, *layout)
+    run(*words, layout, module)
 
 
 def make(sources, options, room):
     """Makes the release's files in the folder `made` of a room, and answers their names."""
     prefix, layout, made = room / "prefix", room / "layout", room / "made"
+    module = room / octofix_compile.NAME
     built = options.program, options.archive, options.version
-    install(prefix, *built)
-    install(layout / "usr", *built, "debian")
+    octofix_compile.compile_to(module, is_pinned=not options.unproved)
+    install(prefix, *built, "prefix", module)
+    install(layout / "usr", *built, "debian", module)
     made.mkdir()
-    library = prefix / "lib/liboctofix.so.1"
-    release = Release(sources, options.program, library, prefix, options.unproved)
+    release = Release(sources, options.program, module, prefix, options.unproved)
     try:
         names = [tarball.make(release, prefix, made), wheel.make(release, prefix, made)]
         names += debian.make(release, layout, made)
@@ -112,7 +114,7 @@ def main():
     options = arguments()
     options.folder = Path(os.path.abspath(options.folder))
     try:
-        check_tools()
+        check_tools(is_pinned=not options.unproved)
         check_folder(options.folder)
         sources = Sources(options.dirty)
         if options.version:

@@ -14,6 +14,10 @@ kit         {kit}
 logic       {logic}
 
 {sums}
+
+The module of the Python package (octofix/_native.abi3.so) isn't the kit's: {tools} made it.
+
+{module}
 """
 PROVED = """\
 The kit builds a program or a library only where it has proved each function of it and of the crates
@@ -21,8 +25,9 @@ below it, and writes the number of the logic by which it proved into the section
 
     readelf -p .comment lib/liboctofix.so.1      # rattle logic={logic:.16}..
 
-Who makes a file can write such a line too, so it is a label and no seal. Whoever has the kit makes
-the same bytes, in any folder, of a clone of that commit:
+Who makes a file can write such a line too, so it is a label and no seal. Whoever has the kit, and
+that compiler with those headers for the module, makes the same bytes, in any folder, of a clone of
+that commit:
 
     git rev-parse HEAD^{{tree}}          # {tree}
     rt version                         # {kit}
@@ -62,6 +67,8 @@ def text(release, prefix):
         "compiler": release.compiler,
         "logic": release.logic or "none: NOT PROVED",
         "sums": "\n".join(sums),
+        "tools": release.module_tools,
+        "module": f"{release.module_sum}  _native.abi3.so",
     }
     middle = PROVED if release.logic else UNPROVED
     return "\n".join([HEAD.format(**facts), middle.format(**facts), TAIL])

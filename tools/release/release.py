@@ -1,5 +1,6 @@
 """What is released: where it comes from, which version it is, and whether it can be released."""
 
+import hashlib
 import os
 import re
 import shutil
@@ -8,6 +9,7 @@ from pathlib import Path
 
 import elf
 import octofix_build
+import octofix_compile
 import provenance
 
 ROOT = Path(__file__).resolve().parents[2]
@@ -42,12 +44,17 @@ def has_numpy(python):
     return shutil.which(python) and not subprocess.run(words, capture_output=True).returncode
 
 
-def check_tools():
+def check_tools(is_pinned):
+    """Whether all is here that makes a release; where it is pinned, the compiler by its version."""
     for tool, source in TOOLS.items():
         if not shutil.which(tool):
             raise Unfit(f"a release needs the command {tool} ({source})")
     if not any(map(has_numpy, PYTHONS)):
         raise Unfit("a release needs a python3 with numpy (in Debian python3-numpy)")
+    try:
+        octofix_compile.tools(is_pinned)
+    except octofix_compile.Unfit as why:
+        raise Unfit(str(why)) from None
 
 
 def check_folder(folder):
@@ -87,7 +94,8 @@ class Sources:
 class Release:
     """What is released: its version, where it comes from, and what stands behind it."""
 
-    def __init__(self, sources, program, library, prefix, may_be_unproved):
+    def __init__(self, sources, program, module, prefix, may_be_unproved):
+        library = prefix / "lib" / octofix_build.LIBRARY
         self.commit, self.tree, self.time = sources.commit, sources.tree, sources.time
         self.is_changed, self.author = sources.is_changed, sources.author
         logics = {elf.logic_of(Path(it).read_bytes()) for it in (program, library)}
@@ -97,9 +105,13 @@ class Release:
         self.number = octofix_build.project()["version"]
         words = ["unproved"] * (not self.logic) + ["changed"] * self.is_changed
         self.version = "+".join([self.number, *[".".join(words)] * bool(words)])
-        self.program, self.library = elf.Elf(program), elf.Elf(library)
-        if self.library.needed() != ["libc.so.6"]:
-            raise Unfit(f"the library needs {self.library.needed()}, and not the C library alone")
+        files = elf.Elf(program), elf.Elf(library), elf.Elf(module)
+        self.program, self.library, self.module = files
+        for it in files[1:]:
+            if it.needed() != ["libc.so.6"]:
+                raise Unfit(f"{it.name} needs {it.needed()}, and not the C library alone")
+        self.module_sum = hashlib.sha256(Path(module).read_bytes()).hexdigest()
+        self.module_tools = octofix_compile.tools(not may_be_unproved)
         kit = Path(shutil.which("rt")).resolve()
         self.kit = run(kit, "version")
         what = (kit.parent.parent / "WHAT").read_text()
@@ -122,5 +134,6 @@ class Release:
             "number": self.number,
             "library": "{}.{}".format(*self.library.glibc()),
             "program": "{}.{}".format(*self.program.glibc()),
+            "module": "{}.{}".format(*self.module.glibc()),
             "maintainer": "{} <{}>".format(*named) if all(named) else self.author,
         }

@@ -150,19 +150,29 @@ try_wheel() {
     pass 'pip uninstall' "$python" -m pip uninstall -y octofix
     expect 'nothing is left of the wheel' '' \
         "$(find "$room/home/octofix" -iname '*octofix?*' | head)"
-    try_sources "$python"
+    try_sources "$python" "$room/kept/liboctofix.so.1"
 }
 
-# try_sources PYTHON: pip builds the package where there is a library, and else refuses.
+# try_sources PYTHON LIBRARY: pip builds the package of its sources alone where there are a library
+# and a compiler, and else refuses.
 try_sources() {
     local wanted="octofix can't be built: the library liboctofix.so.1 can't be loaded"
-    cp -r "$given/bindings/python" "$room/sources"
+    cp -r "$given/bindings" "$room/sources"
     expect 'pip refuses sources without a library' "$wanted" \
-        "$("$1" -m pip install "$room/sources" 2>&1 | grep -o "$wanted" | head -1)"
-    OCTOFIX_LIBRARY=$room/kept/liboctofix.so.1 \
-        pass 'pip installs sources with a library' "$1" -m pip install "$room/sources"
-    expect 'the package of the sources' "$number" \
-        "$(cd / && "$1" -c 'import octofix; print(octofix.__version__)' 2>&1)"
+        "$("$1" -m pip install "$room/sources/python" 2>&1 | grep -o "$wanted" | head -1)"
+    (cd -- "$room/sources/python" &&
+        "$1" -c "import octofix_build as b; b.build_sdist('$room')") >/dev/null
+    wanted="octofix can't be built: no C compiler is here"
+    export OCTOFIX_LIBRARY=$2
+    expect 'pip refuses sources without a compiler' "$wanted" \
+        "$(CC=/no/cc "$1" -m pip install "$room"/octofix-*.tar.gz 2>&1 | grep -o "$wanted" | head -1)"
+    command -v cc >/dev/null || return
+    pass 'pip installs sources with a library' "$1" -m pip install "$room"/octofix-*.tar.gz
+    unset OCTOFIX_LIBRARY
+    expect 'the package of the sources' "$number 850" "$(cd / && "$1" -c 'import octofix
+world = octofix.Map(0.1)
+world.hit((0, 0, 0))
+print(octofix.__version__, world.value_at((0, 0, 0)))' 2>&1)"
 }
 
 # In a folder with a blank in its name, to which it was moved, and which can't be written.
@@ -195,7 +205,7 @@ try_tarball() {
 }
 
 # try_compilers PREFIX: C and C++ over what stands there, by pkg-config and CMake, and over the
-# tarball, which CMake fetches.
+# tarball, which CMake fetches; and the package for Python of its sources.
 try_compilers() {
     local prefix=$1 words tarball it
     tarball=$(echo "$release"/octofix-*.tar.gz)
@@ -214,6 +224,9 @@ try_compilers() {
     try_cmake found "-DCMAKE_PREFIX_PATH=$prefix"
     try_cmake fetched "-DOCTOFIX_URL=file://$tarball" \
         "-DOCTOFIX_SHA256=$(sha256sum "$tarball" | cut -d ' ' -f 1)"
+    export PIP_NO_INDEX=1 PIP_DISABLE_PIP_VERSION_CHECK=1 PIP_ROOT_USER_ACTION=ignore
+    python3 -m venv --system-site-packages "$room/venv"
+    try_sources "$room/venv/bin/python" "$prefix/lib/liboctofix.so.1"
 }
 
 # try_cmake EXAMPLE WORD..

@@ -1,4 +1,5 @@
-"""The wheel: the package with its library, which any pip takes where glibc is new enough."""
+"""The wheel: the package with its library, which the pip of any Python from 3.9 on takes where glibc
+is new enough."""
 
 from pathlib import Path
 
@@ -14,10 +15,10 @@ NAMED = {(2, 5): "manylinux1", (2, 12): "manylinux2010", (2, 17): "manylinux2014
 
 
 def tags_of(needs):
-    """The tags of a library that needs this glibc: the oldest named policy that has it."""
+    """The tags of files that need this glibc: the oldest named policy that has it."""
     policy = min((it for it in NAMED if it >= needs), default=needs)
     names = ["manylinux_{}_{}".format(*policy), *[NAMED[policy]] * (policy in NAMED)]
-    return [f"py3-none-{it}_x86_64" for it in names]
+    return [f"{octofix_build.TAG}-{it}_x86_64" for it in names]
 
 
 def make(release, prefix, out):
@@ -29,5 +30,5 @@ def make(release, prefix, out):
         place = f"octofix-{release.version}.data/data/{name}"
         files[place] = 0o644, Path(prefix, name).read_bytes()
     more = {"PROVENANCE.txt": release.provenance}
-    tags = tags_of(release.library.glibc())
+    tags = tags_of(max(release.library.glibc(), release.module.glibc()))
     return octofix_build.write_wheel(out, files, tags, release.version, more, release.time)

@@ -2,6 +2,7 @@
 import gc
 import os
 import signal
+import sys
 import threading
 import time
 import unittest
@@ -11,10 +12,9 @@ from concurrent.futures import ThreadPoolExecutor
 from functools import partial
 
 import numpy as np
+from holding import Held
 
 import octofix
-from octofix import _lock
-from octofix._lock import ReadersWriterLock
 
 THREADS, ROUNDS = 8, 50
 
@@ -31,6 +31,19 @@ class Threads(unittest.TestCase):
             with ThreadPoolExecutor(THREADS) as pool:
                 list(pool.map(work, range(THREADS)))
             self.assertEqual(world.get([1, 0, 0]).tolist(), [THREADS * ROUNDS])
+
+    def test_single_edits_where_threads_take_turns_often(self):
+        def work(_):
+            for _ in range(5000):
+                world.add((0, 0, 0), 1)
+                world.value_at((0, 0, 0))
+
+        self.addCleanup(sys.setswitchinterval, sys.getswitchinterval())
+        sys.setswitchinterval(1e-5)
+        with octofix.Map(0.1, max=1_000_000) as world:
+            with ThreadPoolExecutor(4) as pool:
+                list(pool.map(work, range(4)))
+            self.assertEqual(world.value_at((0, 0, 0)), 20_000)
 
     def test_answers_are_those_of_one_moment(self):
         # each edit of the box changes all voxels, so a leaf and its fellows agree
@@ -61,7 +74,7 @@ class Threads(unittest.TestCase):
                 begun.wait()
                 try:
                     while True:
-                        self.assertEqual(world.get(np.zeros((100, 3))).max(), 5)
+                        self.assertEqual(world.get(np.zeros((300, 3))).max(), 5)
                 except octofix.Closed:
                     return True
 
@@ -88,13 +101,23 @@ class Threads(unittest.TestCase):
             self.assertEqual(one.to_snapshot(), two.to_snapshot())
             self.assertEqual(one.get([[0, 0, 0], [1, 0, 0]]).tolist(), [1, 2])
 
-    def test_a_map_that_nobody_holds_is_closed(self):
-        world = octofix.Map(0.1)
-        handle, gone = world._handle, weakref.ref(world)
-        del world
+    def test_a_map_that_nobody_holds_gives_its_memory_back(self):
+        def used():
+            with open("/proc/self/statm") as file:
+                return int(file.read().split()[1]) * 4096
+
+        def make():
+            world = octofix.Map(0.1)
+            world.scan(np.random.default_rng(1).uniform(-4, 4, (3000, 3)))
+            self.assertGreater(world.memory, 2**20)
+            return weakref.ref(world)
+
+        self.assertIsNone(make()())
+        before = used()
+        for _ in range(20):
+            make()
         gc.collect()
-        self.assertIsNone(gone())
-        self.assertFalse(handle.is_open)
+        self.assertLess(used() - before, 2**22)
 
 
 class Forks(unittest.TestCase):
@@ -105,28 +128,20 @@ class Forks(unittest.TestCase):
         self.addCleanup(self.world.close)
         self.world.set([0, 0, 0], 5)
 
-    def in_child(self, work, way):
+    def in_child(self, work, is_changing):
         """What the work answers in a child that is forked while another thread does a call."""
-        begun = threading.Event()
-
-        def call():
-            way(begun.set, partial(time.sleep, 0.5))
-
-        other = threading.Thread(target=call)
-        other.start()
-        begun.wait()
-        answers, said = os.pipe()
-        with warnings.catch_warnings():
-            warnings.simplefilter("ignore", DeprecationWarning)  # (3.12 warns of threads)
-            child = os.fork()
-        if child == 0:
-            signal.alarm(10)
-            try:
-                os.write(said, repr(work()).encode())
-                os._exit(0)
-            finally:
-                os._exit(1)
-        other.join()
+        with Held(self.world, is_changing):
+            answers, said = os.pipe()
+            with warnings.catch_warnings():
+                warnings.simplefilter("ignore", DeprecationWarning)  # (3.12 warns of threads)
+                child = os.fork()
+            if child == 0:
+                signal.alarm(10)
+                try:
+                    os.write(said, repr(work()).encode())
+                    os._exit(0)
+                finally:
+                    os._exit(1)
         os.close(said)
         with open(answers) as file:
             found = file.read()
@@ -138,104 +153,120 @@ class Forks(unittest.TestCase):
             self.world.set([1, 0, 0], 7)
             return self.world.get([[0, 0, 0], [1, 0, 0]]).tolist()
 
-        self.assertEqual(self.in_child(work, self.world._lock.reading), "[5, 7]")
+        self.assertEqual(self.in_child(work, False), "[5, 7]")
         self.assertEqual(self.world.get([1, 0, 0]).tolist(), [octofix.UNKNOWN])
 
     def test_while_a_thread_changes_the_map(self):
         def work():
             with octofix.Map(0.1) as other:
-                for call in (self.world.leaves, partial(other.merge, self.world)):
+                calls = self.world.leaves, partial(other.merge, self.world), self.world.close
+                for call in calls:
                     with self.assertRaisesRegex(RuntimeError, "forked while another thread"):
                         call()
+                self.world = None  # (what isn't whole isn't closed)
                 other.set([0, 0, 0], 3)
                 return other.get([0, 0, 0]).tolist()
 
-        self.assertEqual(self.in_child(work, self.world._lock.writing), "[3]")
+        self.assertEqual(self.in_child(work, True), "[3]")
         self.assertEqual(self.world.get([0, 0, 0]).tolist(), [5])
+
+    def test_while_a_thread_waits(self):
+        with Held(self.world, False):
+            waiter = threading.Thread(target=self.world.set, args=((1, 0, 0), 7))
+            waiter.start()
+            time.sleep(0.1)
+            self.assertEqual(self.in_child_alone(), "[5]")
+        waiter.join()
+        self.assertEqual(self.world.get([1, 0, 0]).tolist(), [7])
+
+    def in_child_alone(self):
+        answers, said = os.pipe()
+        child = os.fork()
+        if child == 0:
+            signal.alarm(10)
+            self.world.set((2, 0, 0), 9)
+            os.write(said, repr(self.world.get((0, 0, 0)).tolist()).encode())
+            os._exit(0)
+        os.close(said)
+        with open(answers) as file:
+            found = file.read()
+        self.assertEqual(os.waitpid(child, 0)[1], 0)
+        return found
 
 
 class Lock(unittest.TestCase):
+    def setUp(self):
+        self.world = octofix.Map(0.1)
+        self.addCleanup(self.world.close)
+
+    def started(self, call, *words):
+        """A thread that does a call, which waits by then."""
+        thread = threading.Thread(target=call, args=words)
+        thread.start()
+        time.sleep(0.2)
+        return thread
+
     def test_readers_come_in_side_by_side(self):
-        lock, both = ReadersWriterLock(), threading.Barrier(2, timeout=30)
-        with ThreadPoolExecutor(2) as pool:
-            for it in [pool.submit(lock.reading, both.wait), pool.submit(lock.reading, both.wait)]:
-                it.result()
+        with Held(self.world, False), Held(self.world, False):
+            self.assertIsNone(self.world.value_at((0, 0, 0)))
 
     def test_a_writer_is_alone(self):
-        lock, inside, most = ReadersWriterLock(), [], []
+        for first, second in ((True, False), (True, True), (False, True)):
+            with self.subTest(first=first, second=second):
+                order, held = [], Held(self.world, first)
+                with held:
+                    def use():
+                        (self.world.hit if second else self.world.value_at)((0, 0, 0))
+                        order.append("second")
 
-        def work(way):
-            def be_inside():
-                inside.append(way)
-                time.sleep(0)
-                if lock.writing in inside:
-                    most.append(len(inside))
-                inside.remove(way)
-
-            for _ in range(ROUNDS):
-                way(be_inside)
-
-        with ThreadPoolExecutor(THREADS) as pool:
-            list(pool.map(work, [lock.reading, lock.writing] * (THREADS // 2)))
-        self.assertEqual(set(most), {1})
+                    thread = self.started(use)
+                    order.append("first")
+                    held.give_back()
+                    thread.join(30)
+                self.assertEqual(order, ["first", "second"])
 
     def test_a_waiting_writer_goes_before_new_readers(self):
-        lock, order = ReadersWriterLock(), []
-        threads = [
-            threading.Thread(target=lock.writing, args=(lambda: order.append("writer"),)),
-            threading.Thread(target=lock.reading, args=(lambda: order.append("reader"),)),
-        ]
+        order, held = [], Held(self.world, False)
 
-        def let_them_wait():
-            threads[0].start()
-            # (as long as no writer waits, others may read)
-            while _lock._take_reading(lock._place, _lock._PAST) == 0:
-                _lock._unlock(lock._place)
-                time.sleep(0.001)
-            threads[1].start()
-            time.sleep(4 * _lock._TURN)
+        def read():
+            # (1 where the writer has been there)
+            order.append(self.world.value_at((0, 0, 0)))
+
+        with held:
+            writer = self.started(self.world.set, (0, 0, 0), 1)
+            reader = self.started(read)
             self.assertEqual(order, [])
+            held.give_back()
+            for it in (writer, reader):
+                it.join(30)
+        self.assertEqual(order, [1])
 
-        lock.reading(let_them_wait)
-        for it in threads:
+    def test_a_writer_is_not_starved(self):
+        stop, points = threading.Event(), np.zeros((20_000, 3))
+
+        def ask():
+            while not stop.is_set():
+                self.world.get(points)
+
+        asking = [threading.Thread(target=ask) for _ in range(4)]
+        for it in asking:
+            it.start()
+        began = time.monotonic()
+        for _ in range(20):
+            self.world.hit((0, 0, 0))
+        took = time.monotonic() - began
+        stop.set()
+        for it in asking:
             it.join()
-        self.assertEqual(order, ["writer", "reader"])
+        self.assertLess(took, 10)
 
-    def test_calls_answer_in_their_order(self):
-        lock = ReadersWriterLock()
-        for way in (lock.reading, lock.writing):
-            self.assertEqual(way(int, list, lambda: None), [0, [], None])
-            self.assertEqual(way(), [])
-
-    def test_an_error_inside_leaves_it_free(self):
-        lock = ReadersWriterLock()
-        for way in (lock.reading, lock.writing):
-            for calls in ([{}.popitem], [int, {}.popitem, int]):
-                with self.assertRaises(KeyError):
-                    way(*calls)
-        self.assertEqual(lock.writing(int), [0])
-
-    def test_one_that_waits_can_be_interrupted(self):
-        # (where this runs in the background, the signal may be ignored)
-        before = signal.signal(signal.SIGINT, signal.default_int_handler)
-        self.addCleanup(signal.signal, signal.SIGINT, before)
-        lock, begun, end = ReadersWriterLock(), threading.Event(), threading.Event()
-
-        def be_inside():
-            begun.set()
-            end.wait(30)
-
-        holder = threading.Thread(target=lock.writing, args=(be_inside,))
-        holder.start()
-        begun.wait(30)
-        timer = threading.Timer(0.2, signal.raise_signal, (signal.SIGINT,))
-        timer.start()
-        with self.assertRaises(KeyboardInterrupt):
-            lock.reading(int)
-        end.set()
-        for it in (holder, timer):
-            it.join()
-        self.assertEqual(lock.writing(int), [0])
+    def test_an_error_leaves_it_free(self):
+        for call in (self.world.get, self.world.classes, self.world.hit, self.world.scan):
+            for points in ((9000, 0, 0), (float("nan"), 0, 0), "points"):
+                with self.assertRaises((ValueError, TypeError)):
+                    call(points)
+        self.world.set((0, 0, 0), 5)
+        self.assertEqual(self.world.value_at((0, 0, 0)), 5)
 
 
 if __name__ == "__main__":

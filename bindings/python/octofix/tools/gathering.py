@@ -1,10 +1,9 @@
 """What a scan hits and frees, as leaves, whatever number of beams it has."""
 
-import numpy as np
-
-from octofix import Map, Refused, _arrays, _library
+from octofix import Map, Refused
 
 from .leaves import Leaves
+from .lengths import nanometres
 
 TOO_MANY_CELLS = 8
 # The most points that a scan of a script may have.
@@ -14,14 +13,8 @@ ODDS = {"hit": 1_000_000, "miss": -1, "min": -1, "max": 1_000_000}
 
 
 def do_scan(world, origin, points, reach):
-    """Does a scan of whole nanometres; reach is the range in metres, or None.
-
-    (`Map.scan` takes metres, and makes two more arrays of the points.)"""
-    pose = _library.Pose(_library.Point(*origin.tolist()), 1, 0, 0, 0)
-    cut = -1 if reach is None else _arrays.length(reach, "range")
-    options, points = _library.ScanOptions(cut, 0, 0, False), np.ascontiguousarray(points)
-    counted = _library.Counted()
-    world._do("scan", pose, points.ctypes.data, len(points), options, counted)
+    """Does a scan of whole nanometres; reach is the range in metres, or None."""
+    world.scan_nm(points, origin, None if reach is None else int(nanometres(reach)))
 
 
 def gathered(scan, resolution, limits, reach, window=None):
