@@ -29,7 +29,7 @@ PINNED_COMPILER, PINNED_HEADERS = "12.2.0", "3.11.2"
 SYSTEM_PYTHON = "/usr/bin/python3"
 # A product must not be fused with a sum, since that makes other nanometres.
 FLAGS = (
-    "-std=gnu11 -O2 -fPIC -fvisibility=hidden -ffp-contract=off -fno-math-errno -fno-plt -g0 "
+    "-std=gnu11 -O3 -fPIC -fvisibility=hidden -ffp-contract=off -fno-math-errno -fno-plt -g0 "
     "-Wall -Wextra -Wno-missing-field-initializers -Wno-cast-function-type"
 ).split()
 LINK_FLAGS = "-shared -Wl,-s -Wl,-z,relro -Wl,-z,now -Wl,--build-id=none".split()

@@ -3,7 +3,7 @@
 
 #include <stdlib.h>
 
-enum { PART = 1 << 16 }; /* points that are asked for at once, so that they stay in the cache */
+enum { PART = 1 << 15 }; /* points that are asked for at once, so that they stay in the cache */
 enum { UNKNOWN_CLASS = 0, FREE_CLASS = 1, OCCUPIED_CLASS = 2 };
 enum { CLEAR_KIND = 0, HIT_KIND = 1, UNKNOWN_KIND = 2 };
 static const int32_t UNKNOWN_VALUE = INT32_MIN;
