@@ -17,7 +17,10 @@ ROOT = Path(__file__).resolve().parents[1]
 sys.path += [str(ROOT / "bindings/python"), str(ROOT / "bindings/python/tests_tools")]
 
 import browser  # noqa: E402
+import octofix_compile  # noqa: E402
 from PIL import Image  # noqa: E402
+
+octofix_compile.make_in_place()
 
 from octofix.tools.command import main as octofix  # noqa: E402
 

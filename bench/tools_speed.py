@@ -91,6 +91,7 @@ def large_clouds():
 
 def main(folder, program):
     os.environ["OCTOFIX_LIBRARY"] = str(Path(folder, "liboctofix.so.1").resolve())
+    subprocess.run([sys.executable, PACKAGE / "octofix_compile.py"], check=True)
     os.environ["PYTHONPATH"] = f"{PACKAGE}:{os.environ.get('PYTHONPATH', '')}"
     program, faults = Path(program).resolve(), 0
     with tempfile.TemporaryDirectory() as room:

@@ -97,6 +97,7 @@ if __name__ == "__main__":
     folder = options.library_of(options.parser(__doc__).parse_args())
     os.environ["OCTOFIX_LIBRARY"] = str(Path(folder, "liboctofix.so.1"))
     sys.path.insert(0, str(PACKAGE))
+    subprocess.run([sys.executable, PACKAGE / "octofix_compile.py"], check=True)
     import meshio
     import numpy as np
     import open3d

@@ -26,6 +26,7 @@ def main(folder, many):
         "PYTHONPATH": f"{PACKAGE}:{os.environ.get('PYTHONPATH', '')}",
     }
     tests = ["-s", str(PACKAGE / "tests_tools"), "-p", "test_mutations.py"]
+    subprocess.run([sys.executable, PACKAGE / "octofix_compile.py"], check=True)
     call = [sys.executable, "-W", "error", "-m", "unittest", "discover", *tests]
     return subprocess.run(call, env=os.environ | places).returncode
 
