@@ -615,8 +615,8 @@ class Unit(InFolder):
     def test_millimetres(self):
         said = "all its 2 beams are longer than --range 8 m, as where the unit is another "
         said = f"mm.xyz: {said}(--scale 0.001 for millimetres, --scale 1 for metres)"
-        for words in ([], ["--jobs", 2], ["--every", 1]):
-            self.refused(said, *self.WORDS, "mm.xyz", *words)
+        for words in ([], ["--jobs", 2], ["--every", 1], ["m.xyz"]):
+            self.refused(said, *self.WORDS, *words, "mm.xyz")
         self.assertFalse(os.path.exists("a.bt"))
         self.refused(said, "check", DATA / "five_scans.bt", "--range", 8, "mm.xyz")
         ran = self.done(*self.WORDS, "mm.xyz", "--scale", "0.001")
@@ -625,12 +625,23 @@ class Unit(InFolder):
             self.assertEqual(world.classes([[1.5, 0, 0], [0, 1.5, 0.02]]).tolist(), [2, 2])
 
     def test_metres(self):
-        """Told by the word, or by a beam of a cloud before that isn't cut."""
-        said_so = (["far.xyz", "--scale", 1], 2)
-        for words, cut in (said_so, (["m.xyz", "far.xyz"], 3), (["m.xyz"], 1)):
+        """Told by the word, or by a beam that isn't cut."""
+        for words, cut in ((["m.xyz", "far.xyz", "--scale", 1], 3), (["m.xyz"], 1)):
             ran = self.done(*self.WORDS, *words)
             self.assertIn(f"; {cut} beams cut by --range\n", ran.said)
         self.assertNotIn("--range", self.done("map", "--res", 1, "m.xyz", "-o", "a.bt").said)
+
+    def test_depth_images(self):
+        """Their unit is said."""
+        np.save("a.npy", np.full((2, 2), 9.0))
+        ran = self.done(*self.WORDS, "a.npy", "--camera", 1, 1, 1, 1)
+        self.assertIn("; 4 beams cut by --range\n", ran.said)
+
+    def test_tiles(self):
+        words = ["tiles", "build", "tiles", "--res", 0.1, "--edge", 12.8, "--range", 8]
+        ran = self.done(*words, "mm.xyz", "m.xyz", "--on-error", "skip", status=3)
+        self.assertIn("; 1 beams cut by --range\n", ran.said)
+        self.assertIn("/mm.xyz: all its 2 beams are longer", ran.said)
 
     def test_no_beam(self):
         """Of no point none is cut."""

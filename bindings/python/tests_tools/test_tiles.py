@@ -242,9 +242,19 @@ class Made(InFolder):
 
     def test_sensors_of_cameras(self):
         """What says how poses and points lie reaches the workers."""
-        words = [*save_drive(3), "--turn", "camera", "--sensor", *"0 1 0 1 0 0 1".split()]
+        words = [*save_drive(3), "--turn", "camera", "--sensor", *"0 1 0 0.6 0 0 0.8".split()]
         words += ["--every", "3", "--voxel", "0.3", "--min-range", "0.5"]
         self.same(tiles.build("town", words, 0.1, edge=12.8), words)
+
+    def test_forms_that_are_asked(self):
+        """What says how files are read reaches the workers, too."""
+        numbers = np.random.default_rng(4)
+        numbers.uniform(0, 5000, (20, 6)).tofile("a.bin")
+        words = ["a.bin", "--columns-of-bin", "6d", "--scale", "0.001"]
+        self.same(tiles.build("town", words, 0.1, edge=12.8), words)
+        np.save("a.npy", numbers.integers(0, 5000, (4, 5)))
+        words = ["a.npy", "--camera", *"3 3 2 1".split(), "--depth-scale", "1000"]
+        self.same(tiles.build("street", words, 0.1, edge=12.8), words)
 
 
 class Store(InFolder):

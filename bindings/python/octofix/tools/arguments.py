@@ -126,8 +126,9 @@ def columns(word):
 
 
 def records(word):
-    """The Records of a number of columns, and f or d for four or eight bytes each."""
-    return _read(records_of, word, "number of columns, as 6, 6f or 6d")
+    """A number of columns, and f or d for four or eight bytes each."""
+    _read(records_of, word, "number of columns, as 6, 6f or 6d")
+    return word
 
 
 def turn(word):

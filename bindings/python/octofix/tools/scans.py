@@ -78,8 +78,6 @@ class Scans:
         self.skips, self.frames, self.choice = skips, frames, choice
         self.left, self.gaps, self.clouds = Left(), 0, 0
         self.said, self.is_quiet = set(), is_quiet
-        # (where one beam isn't cut, the unit of the clouds is right)
-        self.is_unit_sure = choice.scale is not None
 
     def is_one_each(self):
         """Whether each file has one cloud, as far as names tell."""
@@ -197,16 +195,16 @@ class Scans:
         if 2 * far > len(points):
             said = f"{far} of its {len(points)} points are 10,000 km away or more"
             raise Unusable(f"{said}, so that it may have other columns (--columns)")
-        self._expect_unit(count, self.left.cut - cut)
+        self._expect_unit(cloud, count, self.left.cut - cut)
         if self.choice.voxel:
             beams = _one_a_voxel(beams, origin, nanometres(self.choice.voxel))
             self.left.chosen += count - len(beams)
         return Scan(cloud.name, origin, beams)
 
-    def _expect_unit(self, count, cut):
-        """Unusable where all beams of the first clouds would be cut, as those of millimetres."""
-        self.is_unit_sure |= cut < count
-        if count and not self.is_unit_sure:
+    def _expect_unit(self, cloud, count, cut):
+        """Unusable where all beams would be cut, as in millimetres, and nobody has said the unit."""
+        is_sure = self.choice.scale is not None or cloud.is_optical
+        if count and cut == count and not is_sure:
             self.left.cut -= cut
             said = f"all its {count} beams are longer than --range {self.choice.reach:g} m"
             units = "--scale 0.001 for millimetres, --scale 1 for metres"

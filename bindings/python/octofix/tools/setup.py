@@ -7,6 +7,7 @@ from .clouds import Reading
 from .clouds.bags import Topics
 from .clouds.depth import Camera
 from .clouds.reading import is_bag, is_bin
+from .clouds.records import records_of
 from .errors import Unusable
 from .ordering import in_order
 from .poses import IDENTITY, Pose
@@ -32,7 +33,8 @@ def scans_of(options):
     allows_empty = getattr(options, "allow_empty", False)
     reading = Reading(
         options.format, options.columns, topics, allows_empty,
-        options.columns_of_bin, options.array, _camera(options),
+        options.columns_of_bin and records_of(options.columns_of_bin), options.array,
+        _camera(options),
     )  # fmt: skip
     choice = Choice(
         options.every, options.min_range, options.voxel, options.scale, options.range
@@ -100,7 +102,7 @@ def _camera(options):
 
 def _frames(options):
     """In which frames poses and points are."""
-    if options.world and options.turn is not None and options.turn is not IDENTITY:
+    if options.world and options.turn and not options.turn.is_identity():
         raise Unusable("--turn and --world exclude each other")
     mount = _pose_asked("--sensor", options.sensor) if options.sensor else IDENTITY
     return Frames(mount, options.turn or IDENTITY, options.world)

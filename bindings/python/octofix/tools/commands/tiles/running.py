@@ -135,5 +135,8 @@ def _closing_words(told):
         yield f"skipped {told['skipped']}"
     if told["gaps"]:
         yield f"{told['gaps']} gaps without a pose"
-    if any(left.get(it) for it in ("endless", "far", "chosen")):
-        yield "left out " + ", ".join(f"{many} points ({it})" for it, many in left.items() if many)
+    if left.get("cut"):
+        yield f"{left['cut']} beams cut by --range"
+    lost = {it: left[it] for it in ("endless", "far", "chosen") if left.get(it)}
+    if lost:
+        yield "left out " + ", ".join(f"{many} points ({it})" for it, many in lost.items())
