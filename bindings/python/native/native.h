@@ -63,7 +63,7 @@ extern library_calls library;
 
 #define PYTHON_OBJECTS(X)                                                                          \
     X(fail) X(fail_row) X(fail_edits) X(fail_points) X(interrupted) X(one_point) X(step)           \
-    X(rows) X(quaternion) X(depth) X(length) X(own_odds) X(change) X(changes)                      \
+    X(rows) X(pose) X(quaternion) X(depth) X(length) X(own_odds) X(change) X(changes)              \
     X(array) X(float64) X(empty) X(new_tuple) X(Counted) X(Casts) X(Stop) X(classes) X(kinds)      \
     X(int8) X(int32) X(uint8) X(uint16) X(block) X(changed) X(key)
 #define PYTHON_FIELD(name) PyObject *name;

@@ -55,21 +55,39 @@ static PyObject *do_scan(map *self, const scan *it) {
     return interrupted(true);
 }
 
-static PyObject *map_scan(ARGUMENTS) {
-    TAKE("scan", 1, 4, "points", "origin", "quaternion", "range", "hit", "miss", "lazy");
+/* The place and the quaternion of a matrix that stands for both, a tuple; None where it is none. */
+static PyObject *pose_of(PyObject *origin, PyObject *quaternion) {
+    double three[3];
+    if (origin && !quaternion && !is_row(origin, 3, three))
+        return PyObject_CallFunctionObjArgs(python.pose, origin, NULL);
+    Py_RETURN_NONE;
+}
+
+static PyObject *scan_at(map *self, PyObject **w, PyObject *origin, PyObject *quaternion) {
     turn by;
     points from;
     scan it = {.options = {.range = -1}};
-    if (take_turn(&by, w[2]) < 0 || take_points(&from, w[0], "points", &by) < 0) return NULL;
+    if (take_turn(&by, quaternion) < 0 || take_points(&from, w[0], "points", &by) < 0) return NULL;
     /* (the points are turned already, and four zeros are refused by the library) */
     it.pose.w = !by.is_none;
     it.points = from.at, it.count = from.count;
     PyObject *made = NULL;
-    if (!(w[1] && take_point(&it.pose.at, w[1], "origin") < 0) &&
+    if (!(origin && take_point(&it.pose.at, origin, "origin") < 0) &&
         take_length(w[3], "range", &it.options.range) == 0 &&
         take_options(&it.options, w[4], w[5], w[6]) == 0)
         made = do_scan(self, &it);
     free_points(&from);
+    return made;
+}
+
+static PyObject *map_scan(ARGUMENTS) {
+    TAKE("scan", 1, 4, "points", "origin", "quaternion", "range", "hit", "miss", "lazy");
+    PyObject *pose = pose_of(w[1], w[2]);
+    if (!pose) return NULL;
+    PyObject *made = pose == Py_None ? scan_at(self, w, w[1], w[2])
+                                     : scan_at(self, w, PyTuple_GetItem(pose, 0),
+                                               PyTuple_GetItem(pose, 1));
+    Py_DECREF(pose);
     return made;
 }
 
@@ -115,11 +133,12 @@ const PyMethodDef scan_methods[] = {
          "Does a scan, and answers `Counted`: hits the voxels where beams end, and frees those on\n"
          "the way.\n\n"
          "`points`, (n, 3), are in metres in the sensor's frame, which stands at `origin` and is\n"
-         "turned by `quaternion` (w, x, y, z), of any length; points are turned in double. A beam\n"
-         "that is longer than `range` metres is cut there, and hits nothing. `hit` and `miss` are\n"
-         "log-odds of this scan alone. A lazy scan leaves depths below 16 to `refresh`. The scan is\n"
-         "done whole or refused: 4, 5, 6, 7 (`index`), 8 (`index`, `cells`) or 23. A Ctrl-C that\n"
-         "comes meanwhile is taken when it is done, as `Interrupted`."),
+         "turned by `quaternion` (w, x, y, z), of any length, or has a 4 x 4 matrix of both as\n"
+         "`origin` alone; points are turned in double. `octofix.measured` has those of a cloud in\n"
+         "which some aren't finite. A beam that is longer than `range` metres is cut there, and hits\n"
+         "nothing. `hit` and `miss` are log-odds of this scan alone. A lazy scan leaves depths below\n"
+         "16 to `refresh`. The scan is done whole or refused: 4, 5, 6, 7 (`index`), 8 (`index`,\n"
+         "`cells`) or 23. A Ctrl-C that comes meanwhile is taken when it is done, as `Interrupted`."),
     FAST(scan_from,
          "scan_from($self, origin, points, range=None, *, hit=None, miss=None, lazy=False)\n--\n\n"
          "Does a scan of beams from `origin`, (3,), to `points`, (n, 3), both in metres in the\n"

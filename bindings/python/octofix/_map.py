@@ -77,16 +77,19 @@ class Map(native.Map):
         return cls._from(source, settings, "_restore")
 
     @classmethod
+    def from_file(cls: type[_Map], source: _files.PathLike | _files.Bytes, **settings: Any) -> _Map:
+        """A new map of a `.bt` file or a snapshot, as its head says; else as `from_bt`."""
+        data = _data_of(source)
+        return cls._from(data, settings, "_restore" if _files.is_snapshot(data) else "_load")
+
+    @classmethod
     def _from(
         cls: type[_Map],
         source: _files.PathLike | _files.Bytes,
         settings: dict[str, Any],
         name: str,
     ) -> _Map:
-        if isinstance(source, (bytes, bytearray, memoryview)):
-            data = source
-        else:
-            data = _files.read_map(source)
+        data = _data_of(source)
         made = cls(_GUESSED_EDGE, **settings)
         try:
             made._take(name, data)
@@ -113,6 +116,16 @@ class Map(native.Map):
         It isn't stale, and has no mark.
         """
         return copy.copy(self)
+
+    clone = copy  # (what C++ calls it)
+
+    def equals(self, other: Map) -> bool:
+        """Whether `other` has the same resolution, and each voxel the same value. Log-odds, limits,
+        box, mark and staleness don't matter."""
+        if not isinstance(other, Map):
+            raise TypeError(f"another Map is compared, and not {other!r}")
+        mine, theirs = (it._leaves(_sought("known")) for it in (self, other))
+        return self.resolution_nm == other.resolution_nm and np.array_equal(mine, theirs)
 
     def __deepcopy__(self: _Map, memo: dict[int, Any]) -> _Map:
         rebuild, arguments, state = self.__reduce__()
@@ -296,6 +309,16 @@ class Map(native.Map):
         self._check_open()
         return _arrays.centers_of(keys, self.resolution_nm)
 
+    def key_of(self, point: npt.ArrayLike) -> tuple[int, int, int]:
+        """The key of the voxel that holds one point, (3,) in metres. Refused: 24 (`index`)."""
+        x, y, z = _only(self.keys(point), "point")
+        return x, y, z
+
+    def middle(self, key: npt.ArrayLike) -> tuple[float, float, float]:
+        """The middle of the voxel with one key, in metres. Refused: 24 (`index`)."""
+        x, y, z = _only(self.centers(key), "key")
+        return x, y, z
+
     def bounds(self, kind: str = "known") -> Box | None:
         """The least box of keys that holds all "known", "occupied" or "free" voxels; None
         without."""
@@ -334,8 +357,13 @@ class Map(native.Map):
         self._take("_load", data)
 
     def to_snapshot(self) -> bytes:
-        """The snapshot of the map: its values, log-odds and box of `limit`."""
-        return self._snapshot().tobytes()
+        """The snapshot of the map: its values, log-odds and box of `limit`.
+
+        Refused: 34 (`count`) where it would have more than 2^30 bytes, and couldn't be read again.
+        """
+        found = self._snapshot()
+        _files.check_written(len(found))
+        return found.tobytes()
 
     def load_snapshot(self, data: _files.Bytes) -> None:
         """Makes the map that of a snapshot, and takes the mark away.
@@ -374,8 +402,22 @@ class Map(native.Map):
         getattr(self, name)(found)
 
 
+def _data_of(source: _files.PathLike | _files.Bytes) -> _files.Bytes:
+    """The bytes of a file, which may be given as they are."""
+    if isinstance(source, (bytes, bytearray, memoryview)):
+        return source
+    return _files.read_map(source)
+
+
 def _box(corners: Any) -> Box | None:
     return None if corners is None else Box(*corners)
+
+
+def _only(rows: npt.NDArray[Any], what: str) -> Any:
+    """The numbers of the only row."""
+    if len(rows) != 1:
+        raise ValueError(f"{what} is one row of three numbers")
+    return rows[0].tolist()
 
 
 def _sought(kind: str) -> int:

@@ -43,6 +43,16 @@ def change(event: npt.ArrayLike, number: npt.ArrayLike) -> tuple[int, int]:
     return int(events), int(_arrays.numbers_of_edits(number, events))
 
 
+def pose(given: Any) -> tuple[list[float], list[float]] | None:
+    """The place and the quaternion of a 4 x 4 matrix; None where it is none."""
+    if np.shape(given) != (4, 4):
+        return None
+    from . import live  # (the package doesn't need it else)
+
+    found = live.pose(given)
+    return found.at.tolist(), found.turn.tolist()
+
+
 def step() -> None:
     """A step of Python, before which it takes what interrupts the thread."""
 

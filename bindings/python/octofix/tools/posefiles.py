@@ -195,7 +195,7 @@ def _pose_of(row, form):
     if len(numbers) < wanted or (len(numbers) > wanted and form != "euroc"):
         raise Unusable(f"a pose has {wanted} numbers here ({form}), and not {len(numbers)}")
     if form in ("kitti", "matrix"):
-        return None, _pose_of_matrix(numbers)
+        return None, pose_of_matrix(numbers)
     if form in ("xyzw", "wxyz"):
         return None, _pose_of_turn(numbers, form)
     if not math.isfinite(numbers[0]):
@@ -204,7 +204,7 @@ def _pose_of(row, form):
     return seconds(numbers[0]), _pose_of_turn(numbers[1 : FORMS[form]], turn)
 
 
-def _pose_of_matrix(numbers):
+def pose_of_matrix(numbers):
     """The pose of the rows of a 3 x 4 or a 4 x 4 matrix."""
     if not all(map(math.isfinite, numbers)):
         raise Unusable("a number of the pose isn't finite")
