@@ -415,7 +415,7 @@ class Words(InFolder):
         """Numpy's words of an array's type may be long."""
         said = "Unable to allocate 21.3 MiB"
         fault = MemoryError(f"{said} for an array with shape (698027,) and data type int64")
-        with mock.patch("octofix.tools.maps.Map.from_bt", side_effect=fault):
+        with mock.patch("octofix.tools.maps.PlacedMap.from_bt", side_effect=fault):
             self.refused(f"memory ran out: {said}", "info", "a.bt")
         with mock.patch("octofix.tools.files._content_of", side_effect=fault):
             self.refused("a.bt: memory ran out as it was read", "info", "a.bt")

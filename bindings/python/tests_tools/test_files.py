@@ -262,7 +262,7 @@ class Nothing(Maps):
         self.assertFalse(os.path.exists("b"))
 
     def test_nothing_is_written(self):
-        self.nothing(self.SAID, "none.npy", "none.npy")
+        self.nothing(self.SAID, "none.npy")
         self.nothing(f"{self.SAID}; left out 1 points that aren't finite", "endless.xyz")
         words = "--min-range", "9", "a.xyz"
         self.nothing(f"{self.SAID}; left out 1 points by --every, --min-range and --voxel", *words)

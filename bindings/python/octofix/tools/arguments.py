@@ -1,10 +1,12 @@
 """Words of the command line that several subcommands take."""
 
 import argparse
+import os
 
 from .clouds.reading import FORMS
 from .clouds.records import records_of
 from .errors import Unusable
+from .lengths import nanometres
 from .posefiles import FORMS as FORMS_OF_POSES
 from .poses import CAMERA, IDENTITY, Pose
 
@@ -30,7 +32,7 @@ OTHERS = {
     "a picture": ".png .pgm .jpg",
     "a page": ".html .htm",
 }
-NAMED |= {ending: kind for kind, endings in OTHERS.items() for ending in endings.split()}
+OTHERS = {ending: kind for kind, endings in OTHERS.items() for ending in endings.split()}
 
 
 AXES = {"camera": CAMERA, "none": IDENTITY}
@@ -38,19 +40,21 @@ AXES = {"camera": CAMERA, "none": IDENTITY}
 
 def classes_output(word):
     """The name of a .bt file that is written; not of a snapshot, whose values it would lack."""
-    return _named(word, NAMED.keys() - {".bt"}, "a .bt file, which has classes alone,")
+    return _named(word, (".bt",), "a .bt file, which has classes alone,")
 
 
 def values_output(word):
     """The name of a snapshot that is written; not of a .bt file, which other programs read."""
-    return _named(word, NAMED.keys() - {".snap", ".snapshot"}, "a snapshot")
+    return _named(word, (".snap", ".snapshot"), "a snapshot")
 
 
-def _named(word, others, kind):
-    """The name of a file of a kind that is written; not with an ending of others."""
-    for it in others:
-        if word.lower().endswith(it):
-            said = f"{word} is named as {NAMED[it]}, and {kind} is written"
+def _named(word, own, kind):
+    """The name of a file of a kind that is written; not with an ending of others. (What stands
+    under the name of a cloud, or the like, is judged by what it is.)"""
+    others = NAMED if os.path.lexists(word) else NAMED | OTHERS
+    for ending, other in others.items():
+        if ending not in own and word.lower().endswith(ending):
+            said = f"{word} is named as {other}, and {kind} is written"
             raise argparse.ArgumentTypeError(said)
     return Output(word)
 
@@ -237,8 +241,26 @@ def _add_poses(group):
         "(KITTI's), 'none' for the map's own",
     )  # fmt: skip
     group.add_argument(
+        "--origin", nargs=3, type=finite, metavar=("X", "Y", "Z"),
+        help="subtract this from poses, and with --world from points, as those of a survey (UTM)",
+    )  # fmt: skip
+    group.add_argument(
         "--world", action="store_true", help="points are in the map's frame; poses say from where"
     )
+
+
+class _Metres(argparse.Action):
+    """Stores lengths as whole nanometres."""
+
+    def __call__(self, parser, namespace, values, option_string=None):
+        setattr(namespace, self.dest, tuple(nanometres(values).tolist()))
+
+
+def add_origin(parser):
+    parser.add_argument(
+        "--origin", nargs=3, type=finite, action=_Metres, metavar=("X", "Y", "Z"),
+        help="where the map's origin lies, if its file doesn't say so",
+    )  # fmt: skip
 
 
 def add_map(parser, name="map"):

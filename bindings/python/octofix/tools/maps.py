@@ -3,11 +3,12 @@
 import shutil
 import subprocess
 
-from octofix import Map, Refused
+from octofix import Refused
 
 from .errors import Unusable
 from .files import MOST_BYTES, read_bytes
 from .leaves import Leaves
+from .surveys import PlacedMap, origin_in, with_origin
 
 SNAPSHOTS = (b"OCTSNAP1", b"OCTSNAP2")
 FLOAT_TREE = b"# Octomap OcTree file"
@@ -16,7 +17,8 @@ MOST_GROUPS = 1 << 26
 
 
 def read_map(name):
-    """The map of a .bt file, a snapshot or a .ot file; Unusable with the reader's own refusal."""
+    """The PlacedMap of a .bt file, a snapshot or a .ot file; Unusable with the reader's own
+    refusal."""
     return _read(name)[0]
 
 
@@ -28,11 +30,13 @@ def _read(name):
     if content.startswith(FLOAT_TREE):
         content = _snapshot_of_ot(name, content)
     is_snapshot = content[:8] in SNAPSHOTS
-    form = Map.from_snapshot if is_snapshot else Map.from_bt
+    form = PlacedMap.from_snapshot if is_snapshot else PlacedMap.from_bt
     try:
-        return form(content, max_groups=MOST_GROUPS), is_snapshot
+        world = form(content, max_groups=MOST_GROUPS)
     except Refused as refused:
         raise Unusable(f"it can't be read as a map: {refused}", name) from None
+    world.origin = None if is_snapshot else origin_in(content)
+    return world, is_snapshot
 
 
 def _snapshot_of_ot(name, content):
@@ -53,21 +57,27 @@ def _snapshot_of_ot(name, content):
 
 def read_leaves(name, kind="known"):
     """The classes of the map of a file: all that are known, or one of them."""
-    return read_leaves_and_values(name, kind)[0]
+    return read_placed(name, kind)[0]
 
 
 def read_leaves_and_values(name, kind="known"):
     """The classes of the map of a file, and of a snapshot the value of each block; else None."""
+    return read_placed(name, kind)[:2]
+
+
+def read_placed(name, kind="known"):
+    """The same, and where the map's origin lies, as a PlacedMap has it."""
     world, is_snapshot = _read(name)
     with world:
         blocks = world.leaves(kind=kind)
         leaves = Leaves.of(blocks, world.odds.threshold)
-    return leaves, blocks.value if is_snapshot else None
+    return leaves, blocks.value if is_snapshot else None, world.origin
 
 
 def write_map(world, files):
     """Writes a map to the files, which are open, by what they are: an "output", which is a .bt
-    file, or a "snapshot"."""
-    for kind, content in (("output", world.to_bt), ("snapshot", world.to_snapshot)):
-        if kind in files:
-            files[kind].write(content())
+    file and has the origin of a PlacedMap, or a "snapshot"."""
+    if "output" in files:
+        files["output"].write(with_origin(world.to_bt(), getattr(world, "origin", None)))
+    if "snapshot" in files:
+        files["snapshot"].write(world.to_snapshot())

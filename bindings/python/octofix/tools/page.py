@@ -16,7 +16,8 @@ import numpy as np
 from . import colours, oblique
 from .bundle import script_of
 from .leaves import FREE, OCCUPIED, ORIGIN, VOXELS, greatest_values
-from .lengths import metres
+from .lengths import NANO, metres
+from .surveys import text_of
 
 PARTED = 3
 MOST_LEAVES = 1 << 22
@@ -28,15 +29,16 @@ SCRIPTS = (
 )  # fmt: skip
 
 
-def page(leaves, name, values=None):
-    """The page of a map, as bytes. `leaves` are its blocks, none of which is the whole map, and
-    `values`, int32, what each of them has, or None where nothing is to be said of that."""
+def page(leaves, name, values=None, origin=None):
+    """The page of a map, as bytes. `leaves` are its blocks, none of which is the whole map,
+    `values`, int32, what each of them has, and `origin` where the map's lies, in nanometres; each
+    may be None where nothing is to be said of that."""
     words = {
         # (a file's name may be no UTF-8)
         "NAME": html.escape(name.encode("utf-8", "replace").decode()),
-        "COUNTS": _counts(leaves),
+        "COUNTS": _counts(leaves, origin),
         "STYLE": _part("page.css"),
-        "MAP": json.dumps(_about(leaves)),
+        "MAP": json.dumps(_about(leaves, origin)),
         "TREE": _packed(words_of(leaves)),
         "VALUES": "" if values is None else _packed(_planes(leaves, values)),
         "SCRIPT": script_of(FOLDER / f"{it}.js" for it in SCRIPTS),
@@ -83,7 +85,7 @@ def _packed(array):
     return base64.b64encode(gzip.compress(array.tobytes(), 9, mtime=0)).decode()
 
 
-def _about(leaves):
+def _about(leaves, origin):
     """Where the map lies, in keys, and how it is painted."""
     low, high = leaves.box() or np.full((2, 3), ORIGIN)
     occupied = leaves.of_class(OCCUPIED).box() or (low, high)
@@ -92,14 +94,16 @@ def _about(leaves):
         "high": high.tolist(),
         "occupied": [int(it[2]) for it in occupied],
         "nanometres": int(leaves.resolution),
+        "origin": origin and [it / NANO for it in origin],
         "colours": colours.ANCHORS.tolist(),
         "brightness": list(oblique.BRIGHTNESS),
     }
 
 
-def _counts(leaves):
+def _counts(leaves, origin):
     occupied, free = leaves.count(OCCUPIED), leaves.count(FREE)
-    return f"{occupied:,} occupied and {free:,} free voxels of {metres(leaves.resolution)} m"
+    said = f"{occupied:,} occupied and {free:,} free voxels of {metres(leaves.resolution)} m"
+    return said if origin is None else f"{said}; the origin lies at {text_of(origin)}"
 
 
 def _part(name):

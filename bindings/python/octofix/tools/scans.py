@@ -43,11 +43,13 @@ class Choice:
 @dataclass(frozen=True)
 class Frames:
     """How the sensor is mounted on what poses are of, how the axes of the poses' frames lie in the
-    map's, and whether points are in the map's frame."""
+    map's, whether points are in the map's frame, and where its origin lies in that of poses and
+    such points, in metres, or None."""
 
     mount: Pose = IDENTITY
     turn: Pose = IDENTITY
     is_world: bool = False
+    origin: tuple = None
 
 
 @dataclass
@@ -169,6 +171,10 @@ class Scans:
             pose = IDENTITY
         if pose is None:
             return None
+        if self.frames.origin is not None:
+            if pose is IDENTITY:
+                raise Unusable("--origin is subtracted from poses, and none is given")
+            pose = Pose.of(pose.at - self.frames.origin, pose.turn)
         placed = pose.along(self.frames.turn).carrying(self.frames.mount)
         return placed.carrying(self.frames.turn) if cloud.is_optical else placed
 
@@ -202,7 +208,7 @@ class Scans:
         return Scan(cloud.name, origin, beams)
 
     def _expect_unit(self, cloud, count, cut):
-        """Unusable where all beams would be cut, as in millimetres, and nobody has said the unit."""
+        """Unusable where all beams are too long, as in millimetres, and nobody says the unit."""
         is_sure = self.choice.scale is not None or cloud.is_optical
         if count and cut == count and not is_sure:
             self.left.cut -= cut
@@ -222,6 +228,8 @@ class Scans:
         self.left.far += int((is_finite & ~is_near).sum())
         points = points[is_finite & is_near]
         is_world = self.frames.is_world
+        if is_world and self.frames.origin is not None:
+            points -= self.frames.origin
         beams = nanometres(points) - origin if is_world else nanometres(pose.turned(points))
         is_near = (np.abs(beams) < FARTHEST).all(axis=1)
         self.left.far += len(beams) - int(is_near.sum())

@@ -105,7 +105,7 @@ def _frames(options):
     if options.world and options.turn and not options.turn.is_identity():
         raise Unusable("--turn and --world exclude each other")
     mount = _pose_asked("--sensor", options.sensor) if options.sensor else IDENTITY
-    return Frames(mount, options.turn or IDENTITY, options.world)
+    return Frames(mount, options.turn or IDENTITY, options.world, options.origin)
 
 
 def _pose_asked(option, numbers):

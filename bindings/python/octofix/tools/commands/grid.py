@@ -14,7 +14,7 @@ import re
 import numpy as np
 
 from .. import planes
-from ..arguments import Output, add_map, add_output, finite
+from ..arguments import Output, add_map, add_origin, add_output, finite
 from ..boxes import box_of
 from ..clashes import refuse_clashes
 from ..errors import DONE, Unusable
@@ -25,6 +25,7 @@ from ..maps import read_map
 from ..pictures import form_of, picture
 from ..pointfiles import points_file
 from ..progress import say
+from ..surveys import the_one
 from ..yamltext import text_of
 
 HELP = "a height band as PGM or PNG, with its YAML for ROS"
@@ -48,6 +49,7 @@ def arguments(parser):
         "--area", nargs=4, type=finite, metavar=("X0", "Y0", "X1", "Y1"), help="in metres (all)"
     )
     add_output(parser, ".pgm or .png")
+    add_origin(parser)
     parser.add_argument("--frontier", type=Output, metavar="FILE", help="a .csv of the frontier")
 
 
@@ -57,7 +59,9 @@ def run(options):
         resolution = world.resolution_nm
         low, high = box_for(world.bounds(), resolution, options.area, options.height)
         plane = planes.band_of(world, low, high)
-    write_grid(options.output, beside, plane, low, resolution, options.frontier)
+        origin = the_one(world.origin, options.origin, options.map)
+    place = low, resolution, origin
+    write_grid(options.output, beside, plane, place, options.frontier)
     return DONE
 
 
@@ -70,13 +74,15 @@ def yaml_beside(options):
     return beside
 
 
-def write_grid(name, beside, plane, low, resolution, frontier=None):
-    """Writes the picture of a plane of classes, whose lower left cell has the key `low`, its YAML,
-    and where a file is named its frontier."""
+def write_grid(name, beside, plane, place, frontier=None):
+    """Writes the picture of a plane of classes, its YAML, and where a file is named its frontier.
+    place: the key of the lower left cell, the resolution, and where the map's origin lies, or
+    None."""
+    low, resolution, _ = place
     image = text_of(os.path.basename(name))
     greys = np.array([GREYS[it] for it in (UNKNOWN, FREE, OCCUPIED)], np.uint8)
     contents = {name: picture(name, greys[plane[::-1]])}
-    contents[beside] = yaml_of(image, low, resolution).encode()
+    contents[beside] = yaml_of(image, *place).encode()
     if frontier:
         contents[frontier] = frontier_file(plane, low, resolution)
     with written(*contents) as files:
@@ -113,10 +119,12 @@ def box_for(known, resolution, area, height, options="--area, --height"):
     return low, high
 
 
-def yaml_of(image, low, resolution):
-    """The YAML of an image whose lower left cell has this key: its origin is that corner."""
+def yaml_of(image, low, resolution, origin=None):
+    """The YAML of an image whose lower left cell has this key: its origin is that corner. Where the
+    origin of the map lies, if somebody says so, is a key that a map server passes over."""
     x, y = (metres(it) for it in (np.asarray(low)[:2] - ORIGIN) * resolution)
-    return YAML.format(image=image, resolution=metres(resolution), x=x, y=y)
+    said = YAML.format(image=image, resolution=metres(resolution), x=x, y=y)
+    return said if origin is None else f"{said}map_origin: [{', '.join(map(metres, origin))}]\n"
 
 
 def frontier_file(plane, low, resolution):

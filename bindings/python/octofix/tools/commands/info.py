@@ -6,22 +6,24 @@
 
 import json
 
-from ..arguments import add_map
+from ..arguments import add_map, add_origin
 from ..errors import DONE
 from ..leaves import FREE, OCCUPIED, Leaves
 from ..lengths import NANO
 from ..maps import read_map
+from ..surveys import the_one
 
 HELP = "what a map has"
 
 
 def arguments(parser):
     add_map(parser)
+    add_origin(parser)
     parser.add_argument("--json", action="store_true", help="as an object of JSON")
 
 
 def run(options):
-    found = facts(options.map)
+    found = facts(options.map, options.origin)
     if options.json:
         print(json.dumps(found, indent=2))
     else:
@@ -30,15 +32,18 @@ def run(options):
     return DONE
 
 
-def facts(name):
-    """Names and numbers of a map; lengths in metres, volumes in cubic metres."""
+def facts(name, asked=None):
+    """Names and numbers of a map; lengths in metres, volumes in cubic metres. asked: where its
+    origin lies, as PlacedMap has it, where its file doesn't say."""
     with read_map(name) as world:
         leaves = Leaves.of(world.leaves(), world.odds.threshold)
         counts, memory = world.counts(), world.memory
         extents = {it: world.extent(it) for it in ("known", "occupied")}
         resolution, odds = world.resolution, world.odds._asdict()
+        origin = the_one(world.origin, asked, name)
     voxels = {one: leaves.count(one) for one in (OCCUPIED, FREE)}
     found = {"resolution": resolution}
+    found |= {"origin": [it / NANO for it in origin]} if origin else {}
     found |= {"occupied_voxels": voxels[OCCUPIED], "free_voxels": voxels[FREE]}
     found |= {"leaves": len(leaves), "nodes": counts.nodes, "groups": counts.groups}
     for kind, extent in extents.items():

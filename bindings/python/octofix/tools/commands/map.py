@@ -15,7 +15,7 @@ one of N regions, the same ones for the same clouds; 'octofix merge' joins their
 
 import os
 
-from octofix import Map, Refused
+from octofix import Refused
 
 from ..arguments import (
     Output, add_scans, classes_output, length, region, thousandths, values_output, whole,
@@ -24,12 +24,14 @@ from ..clashes import refuse_clouds
 from ..errors import DONE, INTERRUPTED, SKIPPED, Unusable
 from ..files import WRITING, written
 from ..interrupts import INTERRUPTS, Abandoned
+from ..lengths import nanometres
 from ..mapping import Mapper
 from ..maps import write_map
 from ..parallel import ParallelMapper, RegionMapper
 from ..progress import Progress, is_terminal, say
 from ..script import Script
 from ..setup import scans_of
+from ..surveys import PlacedMap
 
 HELP = "clouds to a map"
 OUTPUTS = {
@@ -121,10 +123,12 @@ def _map_of(options):
     odds["threshold"] = odds.pop("thr")
     limits = {"max_groups": options.max_groups, "max_cells": options.max_cells}
     try:
-        return Map(options.res, **odds, **limits)
+        world = PlacedMap(options.res, **odds, **limits)
     except Refused as refused:
         field = refused.fields.get("field", refused.name)
         raise Unusable(REFUSED.get(field, str(refused))) from None
+    world.origin = options.origin and tuple(nanometres(options.origin).tolist())
+    return world
 
 
 def _fill(mapper, scans, options):

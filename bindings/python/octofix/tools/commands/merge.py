@@ -20,6 +20,7 @@ from ..files import WRITING, written
 from ..interrupts import INTERRUPTS
 from ..maps import read_map, write_map
 from ..regions import Parts, Region
+from ..surveys import the_one
 
 HELP = "maps joined with their values"
 RULES = {it.name.lower(): it for it in Rule}
@@ -88,6 +89,7 @@ def _note(parts, world, name, rule):
 
 
 def _merge(world, other, rule, name, first):
+    world.origin = the_one(world.origin, other.origin, first)
     try:
         world.merge(other, rule)
     except Refused as refused:

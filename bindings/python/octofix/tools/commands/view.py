@@ -22,16 +22,17 @@ from math import isqrt
 import numpy as np
 
 from .. import colours, oblique, planes
-from ..arguments import add_box, add_map, add_output, finite, whole
+from ..arguments import add_box, add_map, add_origin, add_output, finite, whole
 from ..boxes import box_of
 from ..errors import DONE, Unusable
 from ..files import write
 from ..leaves import OCCUPIED, VOXELS, values_of_parts
-from ..maps import read_leaves, read_leaves_and_values
+from ..maps import read_leaves, read_placed
 from ..morton import decode
 from ..page import MOST_LEAVES, fewer, page
 from ..pictures import MOST_PIXELS, write_picture
 from ..progress import say
+from ..surveys import the_one
 from .grid import box_for
 
 HELP = "a page for a browser, or a picture: from above, from a corner, a slice"
@@ -63,6 +64,7 @@ def arguments(parser):
     parser.add_argument("--text", action="store_true", help="a slice as text on the output")
     add_output(parser, "the page, .html, or picture, .png", is_required=False)
     parser.add_argument("--open", action="store_true", help="show the page in the browser")
+    add_origin(parser)
 
 
 def run(options):
@@ -121,7 +123,8 @@ def _write_for_the_browser(content):
 
 
 def _page_of(options):
-    leaves, values = read_leaves_and_values(options.map)
+    leaves, values, said = read_placed(options.map)
+    origin = the_one(said, options.origin, options.map)
     if options.box:
         part = leaves.within(*box_of(options.box, leaves.resolution))
         values = values if values is None else values_of_parts(values, leaves, part)
@@ -134,7 +137,7 @@ def _page_of(options):
     if depth < VOXELS:
         say(f"blocks of depth {depth} are shown: there are more than {MOST_LEAVES} leaves")
     name = "map" if options.map == "-" else os.path.basename(options.map)
-    return page(leaves, name, values)
+    return page(leaves, name, values, origin)
 
 
 def _slice(leaves, options):

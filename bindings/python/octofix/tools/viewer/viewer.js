@@ -13,7 +13,7 @@ const SLOW = 60, FIRST_SLOW = 1000, REST = 250;         // milliseconds
 
 export class Viewer {
   // about: the bounds of what is known and the heights of what is occupied in keys, nanometres of
-  // a voxel, and colours; supply: the faces of the tree.
+  // a voxel, where its origin lies, and colours; supply: the faces of the tree.
   constructor(about, tree, supply) {
     Object.assign(this, about, {tree, supply, canvas: element("canvas")});
     this.high = about.high.map(it => it + 1);
@@ -137,7 +137,8 @@ export class Viewer {
   }
 
   say(hit) {
-    element("told").textContent = hit ? lineOn(hit, this.tree, this.nanometres) : "";
+    element("told").textContent = hit
+      ? lineOn(hit, this.tree, this.nanometres, this.origin) : "";
     this.painter.mark(hit?.key);
   }
 }

@@ -40,7 +40,7 @@ def run(options):
         except ValueError as why:
             raise Unusable(f"{why} (--area, --height)") from None
         key = tiles.voxels_of(low)[0] + ORIGIN
-        write_grid(options.output, beside, plane, key, tiles.resolution_nm)
+        write_grid(options.output, beside, plane, (key, tiles.resolution_nm, None))
     return DONE
 
 
