@@ -256,6 +256,8 @@ class Forms(InFolder):
             if "last" not in said:
                 ran = octofix(*words, "--pose-format", "tum", "--by-time")
                 self.assertIn("its name has no time", ran.said)
+        # (turned back, and rolling a little)
+        self.assertIn("scan 1 2 3", self.scan("0 1 2 3 0.003 -0.002 1 0.001\n"))
         # (at a height of 1 m)
         with open("b.xyz", "w") as file:
             file.write("2 0 0.5\n")

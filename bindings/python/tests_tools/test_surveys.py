@@ -32,6 +32,14 @@ class Surveys(InFolder):
         node = b"NODE 500002.05 4649776.55 100.05 0 0 1.5707963267948966\n3 0 0\n"
         self.assertEqual(self.script("-", *UTM, given=node), self.wanted)
 
+    def test_short_numbers(self):
+        """At 4,649 km those of 32 bits are half a metre apart."""
+        np.save("short.npy", np.load("world.npy").astype(np.float32))
+        said = "octofix: short.npy: its points have 32 bits, and so steps of 0.5 m\n"
+        words = [*UTM, "--world", "-o", "a.bt"]
+        self.assertEqual(self.map("short.npy", *words).count(said), 1)
+        self.assertNotIn("steps", self.map("world.npy", *words))
+
     def test_without_poses(self):
         said = "a.npy: --origin is subtracted from poses, and none is given"
         self.refused(said, "map", "--res", 1, "a.npy", *UTM, "-o", "a.bt")

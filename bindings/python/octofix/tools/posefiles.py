@@ -165,9 +165,9 @@ def _expect_tum(row, rows):
         return
     if not _rise(alike[:, 0]):
         raise Unclear("its first numbers don't rise, as times do (--pose-format tum: they are)")
-    # (a turn by little has a large w, whatever its axis)
-    first, last = np.square(alike[:, [4, 7]]).sum(axis=0)
-    if last < 2 * first:
+    # (a turn by little has a large w, whatever its axis; one that is level has small x and y)
+    a, b, c, d = np.square(alike[:, 4:]).sum(axis=0)
+    if d < 2 * a and b + c < 10 * (a + b):
         raise _unclear(row.text)
 
 

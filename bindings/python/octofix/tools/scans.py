@@ -187,6 +187,7 @@ class Scans:
     def _placed(self, cloud, pose):
         """The scan of a cloud, made piece by piece, so that little memory is taken beside it."""
         origin, points, count = nanometres(pose.at), cloud.points[:: self.choice.every], 0
+        self._tell_steps(cloud)
         self.left.chosen += len(cloud.points) - len(points)
         endless, far, cut = self.left.endless, self.left.far, self.left.cut
         beams = np.empty((len(points), 3), np.int64)
@@ -207,6 +208,16 @@ class Scans:
             self.left.chosen += count - len(beams)
         return Scan(cloud.name, origin, beams)
 
+    def _tell_steps(self, cloud):
+        """Says so where points of a survey stand in steps of more than a millimetre, as numbers of
+        32 bits have it."""
+        is_survey = self.frames.is_world and self.frames.origin is not None
+        if is_survey and cloud.points.dtype.itemsize < 8:
+            largest = np.abs(cloud.points[np.isfinite(cloud.points)]).max(initial=0)
+            step = np.spacing(largest) if largest.dtype.kind == "f" else 0
+            if step > 1e-3:
+                self._say_once(f"its points have 32 bits, and so steps of {step:g} m", cloud.name)
+
     def _expect_unit(self, cloud, count, cut):
         """Unusable where all beams are too long, as in millimetres, and nobody says the unit."""
         is_sure = self.choice.scale is not None or cloud.is_optical
@@ -221,7 +232,8 @@ class Scans:
         # (what has no place among numbers of 64 bits is infinite, and left out)
         with np.errstate(invalid="ignore", over="ignore"):
             points = points.astype(float)
-            points *= self.choice.scale or 1
+            if self.choice.scale is not None:
+                points *= self.choice.scale
         is_finite = np.isfinite(points).all(axis=1)
         is_near = (np.abs(points) < FARTHEST / NANO).all(axis=1)
         self.left.endless += len(points) - int(is_finite.sum())
