@@ -67,6 +67,17 @@ class Surveys(InFolder):
         self.assertIn("voxels of 0.1 m; the origin lies at 500000 4649776.5 100</p>", page)
         self.assertIn('"origin": [500000.0, 4649776.5, 100.0]', page)
 
+    def test_checked(self):
+        """The same is subtracted from what a map is compared with."""
+        self.map("a.npy", *UTM, "-o", "a.bt", "--snapshot", "a.snap")
+        words = ["a.npy", "--poses", "poses.txt", "--json"]
+        for name in ("a.bt", "a.snap"):
+            found = json.loads(self.done("check", name, *words, *UTM).output)
+            self.assertEqual((found["ends_occupied"], found["voxels_wrong"]), (1, 0))
+        said = "a.bt: its origin isn't subtracted (--origin 500000 4649776.5 100)"
+        self.refused(said, "check", "a.bt", *words)
+        self.refused(said, "check", "a.bt", *words, "--origin", 500000, 4649776, 100)
+
     def test_said_for_a_snapshot(self):
         """Which has no place for it."""
         self.map("a.npy", *UTM, "-o", "a.bt", "--snapshot", "a.snap")

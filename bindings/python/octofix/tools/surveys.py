@@ -6,7 +6,7 @@ from decimal import Decimal
 from octofix import Map
 
 from .errors import Unusable
-from .lengths import NANO, metres
+from .lengths import NANO, metres, nanometres
 
 # A header has at most so many bytes.
 HEADER = 1 << 16
@@ -39,6 +39,12 @@ def with_origin(content, origin):
 
 def text_of(origin):
     return " ".join(map(metres, origin))
+
+
+def expect_subtracted(said, lengths, name):
+    """Unusable where the origin that a map has isn't what is subtracted from clouds, in metres."""
+    if said and (lengths is None or said != tuple(nanometres(lengths).tolist())):
+        raise Unusable(f"its origin isn't subtracted (--origin {text_of(said)})", name)
 
 
 def the_one(said, asked, name):

@@ -26,6 +26,7 @@ from ..mapping import refusal
 from ..maps import read_map
 from ..progress import say
 from ..setup import scans_of
+from ..surveys import expect_subtracted
 
 HELP = "how far a map agrees with scans"
 
@@ -53,6 +54,7 @@ class Tally:
 def run(options):
     scans, tally = scans_of(options), Tally()
     with read_map(options.map) as world:
+        expect_subtracted(world.origin, options.origin, options.map)
         leaves = Leaves.of(world.leaves(), world.odds.threshold)
         for scan in scans:
             try:
