@@ -315,6 +315,9 @@ class DepthImages(InFolder):
         np.save("b.npy", np.ones((2, 3, 1)))
         said = "its array is 2 x 3 x 1 of float64, and a depth image is rows x columns of numbers"
         self.refused(f"b.npy: {said}", *words, "b.npy", *scaled)
+        said = "isn't for the form text"
+        self.refused(f"-: --camera {said}", *words, "-", *scaled, given=b"1 2 3\n")
+        self.refused(f"-: --array {said}", *words, "-", "--array", "a", given=b"1 2 3\n")
         for said, *more in (
             ("--depth-scale needs --camera", "--depth-scale", 1000),
             ("the focal lengths of --camera are above 0", "--camera", 0, 1, 1, 0),

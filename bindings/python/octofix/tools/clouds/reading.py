@@ -109,6 +109,17 @@ def clouds_again(name, reading):
         reading.kept.update(kept)
 
 
+def _expect_use(reading, form):
+    """Unusable where something is asked of a form that says nothing of it."""
+    for option, is_useless in (
+        ("--columns", reading.columns and form in WITHOUT_COLUMNS),
+        ("--array", reading.array is not None and form != "npz"),
+        ("--camera", reading.camera is not None and form != "depth"),
+    ):
+        if is_useless:
+            raise Unusable(f"{option} isn't for the form {form}")
+
+
 def _opened(name, reading):
     """The form of a file, and an iterator of its clouds, which alone has the file's content."""
     form = reading.form
@@ -122,8 +133,7 @@ def _opened(name, reading):
         form = "depth" if form == "npy" and reading.camera else form
         if form == "text":
             refuse_unread(content)
-    if reading.columns and form in WITHOUT_COLUMNS:
-        raise Unusable(f"--columns isn't for the form {form}")
+    _expect_use(reading, form)
     if form == "bag":
         if name != "-" and os.path.isfile(name):
             refuse_empty(os.path.getsize(name))
