@@ -9,20 +9,24 @@ from unittest import mock
 import numpy as np
 from running import DATA, InFolder, save_map
 
-from octofix import Map
+from octofix import Limits, Map, ray
 from octofix.tools import crew, mapping
 from octofix.tools.command import parser
 from octofix.tools.interrupts import INTERRUPTS
 from octofix.tools.lengths import nanometres
+from octofix.tools.parallel import is_safe
 from octofix.tools.regions import (
     HIGHEST,
     LOWEST,
     PLACES,
+    Cut,
     Parts,
     Region,
     Samples,
     cut,
-    near,
+    cut_off,
+    parted,
+    regions_in,
     sample,
 )
 from octofix.tools.scans import Scan
@@ -78,6 +82,23 @@ class Jobs(InFolder):
             self.assertEqual(wanted[1].count("skipped: 04.npy: its point"), status // 3)
             for jobs in (2, 3, 7, 0):
                 self.assertEqual(self.map(jobs, *words, status=status), wanted)
+
+    def test_what_is_said(self):
+        """Of clouds that have no pose, can't be read or say where they stood: as by one thread."""
+        save_drive(np.random.default_rng(1))
+        with open("09.pcd", "w") as file:
+            file.write("VERSION .7\nFIELDS x y z\nSIZE 4 4 4\nTYPE F F F\nWIDTH 1\nHEIGHT 1\n"
+                       "VIEWPOINT 1 0 0 1 0 0 0\nPOINTS 1\nDATA ascii\n1 2 nan\n")
+        with open("20.xyz", "w") as file:
+            file.write("no cloud")
+        clouds = [*CLOUDS, "09.pcd", "20.xyz", "09.pcd"]
+        for words in (["--poses", "poses.tum", "--by-time"], []):
+            words = [*words, "--on-error", "skip"]
+            wanted = self.map(1, *words, status=3, clouds=clouds)
+            self.assertIn("2 points that aren't finite" if words[:1] == ["--on-error"] else "gap:",
+                          wanted[1])
+            for jobs in (2, 5):
+                self.assertEqual(self.map(jobs, *words, status=3, clouds=clouds), wanted)
 
     def test_many_scans_of_one_file(self):
         words = {"clouds": [DATA / "five_scans.log"]}
@@ -201,7 +222,10 @@ class Regions(InFolder):
             voxels = np.rint(random.normal(size=(40, PLACES, 3)) * scale).astype(int)
             samples = Samples(voxels.clip(LOWEST, HIGHEST), random.integers(0, 9, 40))
             for count in (1, 2, 3, 64):
-                found, parts = cut(samples, count), Parts()
+                found, parts = regions_in(cut(samples, count)), Parts()
+                for number in {0, count // 2, count - 1}:
+                    one = regions_in(cut(samples, count, number))
+                    self.assertEqual(one, found[number : number + 1])
                 self.assertEqual(len(found), count)
                 self.assertEqual({parts.add("", it) for it in found}, {None})
                 self.assertFalse(parts.lack())
@@ -210,19 +234,19 @@ class Regions(InFolder):
         """No region is without voxels."""
         for end in (LOWEST, HIGHEST):
             samples = Samples(np.full((1, PLACES, 3), end), np.array([1]))
-            self.assertTrue(all(it.size() > 0 for it in cut(samples, 9)))
+            self.assertTrue(all(it.size() > 0 for it in regions_in(cut(samples, 9))))
 
     def test_no_beam_is_cut_where_others_are(self):
         """Beams to a wall on x: those to the left and those to the right have a region each."""
         points = nanometres([[10, 0.01 * it, 0] for it in range(-500, 500)])
-        found = cut(sample(Scan("", nanometres([0, 0, 0]), points), 100_000_000, None), 2)
+        found = regions_in(cut(sample(Scan("", nanometres([0, 0, 0]), points), 10**8, None), 2))
         self.assertEqual((found[0].low[0], found[1].high[0]), (LOWEST, HIGHEST))
         self.assertAlmostEqual(found[1].low[1], 0, delta=2)
 
     def test_they_have_about_as_much(self):
         """Beams to a spot on x, which have to be cut in any case, are halved."""
         points = nanometres([[10, 0, 0]] * 100)
-        found = cut(sample(Scan("", nanometres([0, 0, 0]), points), 100_000_000, None), 2)
+        found = regions_in(cut(sample(Scan("", nanometres([0, 0, 0]), points), 10**8, None), 2))
         self.assertAlmostEqual(found[1].low[0], 50, delta=5)
 
     def test_a_range(self):
@@ -237,9 +261,45 @@ class Regions(InFolder):
         scan = Scan("", nanometres([0.5, 0, 0]), nanometres([[9, 0, 0], [2.5, 0, 0], [2.4, 0, 0]]))
         beside = Scan("", nanometres([0.5, 0, 0]), nanometres([[-9, 0, 0], [0, 9, 9], [0, 0, 0]]))
         region = Region((4, LOWEST, LOWEST), (HIGHEST,) * 3)
-        self.assertEqual(near(scan, region, 10**9, None).tolist(), [True, True, False])
-        self.assertEqual(near(beside, region, 10**9, None).tolist(), [False] * 3)
-        self.assertEqual(near(scan, region, 10**9, 2).tolist(), [False] * 3)
+        tree = Cut(0, 4, None, region)
+        for it, reach, wanted in ((scan, None, [0, 1]), (beside, None, []), (scan, 2, [])):
+            self.assertEqual([few.tolist() for few in parted(it, tree, 10**9, reach)], [wanted])
+
+    def test_no_beam_is_missed(self):
+        """Each beam comes to each region of which it meets a voxel, and few come to others."""
+        random = np.random.default_rng(3)
+        for case in range(6):
+            step, reach = 10**8 if case % 2 else 1, (None, 3)[case % 3 == 0]
+            at = nanometres(random.uniform(-2, 2, 3)) // step * step
+            points = nanometres(random.normal(size=(60, 3)) * 4) // step * step
+            points[:9, case % 3] = 0
+            scan = Scan("", at, points)
+            tree = cut(sample(scan, 10**8, reach), 13)
+            regions, numbers = regions_in(tree), parted(scan, tree, 10**8, reach)
+            came = {(place, it) for place, few in enumerate(numbers) for it in few.tolist()}
+            wanted = set()
+            for number, beam in enumerate(cut_off(points, reach)):
+                keys = ray(0.1, at / 1e9, (at + beam) / 1e9).astype(int) - 32768
+                for place, it in enumerate(regions):
+                    if ((keys >= it.low) & (keys <= it.high)).all(axis=1).any():
+                        wanted.add((place, number))
+            self.assertLessEqual(wanted, came)
+            self.assertLess(len(came), 3 * len(wanted))
+
+    def test_scans_that_nobody_refuses(self):
+        """Beams of 1 m at 0.1 m meet up to 11 voxels, and by the sum of their lengths 12."""
+        limits, ways = Limits(16, 24), nanometres([[1, 0, 0], [0, -1, 0]])
+        middle, last = nanometres([0, 0, 0]), nanometres([0, 3276.5, 0])
+        tried = [
+            (True, middle, ways, None, limits),
+            (False, middle, ways, None, Limits(16, 15)),
+            (True, middle, ways[:0], None, limits),
+            (False, last, -ways, None, limits),
+            (True, last, -ways, 0.05, limits),
+            (False, nanometres([9999, 0, 0]), ways, None, limits),
+        ]
+        for wanted, origin, points, reach, its in tried:
+            self.assertEqual(is_safe(Scan("", origin, points), 10**8, reach, its), wanted)
 
     def test_scans_from_all_over(self):
         """Each stands for as many as are left out after it."""
@@ -264,7 +324,7 @@ class Regions(InFolder):
             places = [Scan("", nanometres(at), nanometres(it)) for it, at, _, _ in scans]
             samples = Samples.joined([sample(it, 100_000_000, None) for it in places])
             worlds = [Map(0.1) for _ in range(6)]
-            for world, region in zip(worlds, [Region(), *cut(samples, 5)]):
+            for world, region in zip(worlds, [Region(), *regions_in(cut(samples, 5))]):
                 world.limit(*region.corners(world.resolution_nm))
                 world.track()
                 for points, at, reach, lazy in scans:

@@ -214,13 +214,22 @@ class Scanning(Processes):
 
     def test_once(self):
         """It says what it waits for, and the map has that scan, in each region."""
-        for words in ([], ["--jobs", "3"]):
-            run = self.slow_map(0.5, *words)
-            run.send_signal(signal.SIGINT)
-            said = "octofix: Ctrl-C waits for the running scan; a second Ctrl-C ends at once\n"
-            said += "octofix: stopped by Ctrl-C: the map has the scans until then\n"
-            self.ends(run, said, BY_CTRL_C)
-            self.assertEqual(content_of("a.bt"), content_of("wanted.bt"))
+        run = self.slow_map(0.5)
+        run.send_signal(signal.SIGINT)
+        said = "octofix: Ctrl-C waits for the running scan; a second Ctrl-C ends at once\n"
+        said += "octofix: stopped by Ctrl-C: the map has the scans until then\n"
+        self.ends(run, said, BY_CTRL_C)
+        self.assertEqual(content_of("a.bt"), content_of("wanted.bt"))
+
+    def test_once_by_threads(self):
+        """While regions do scans that were read before; the last one of them, or not."""
+        run = self.slow_map(0.5, "--jobs", "3")
+        run.send_signal(signal.SIGINT)
+        _, said = run.communicate(timeout=30)
+        self.assertEqual(run.returncode, BY_CTRL_C)
+        self.assertRegex(said.decode(), "^octofix: Ctrl-C waits for the running scans; a second "
+                         "Ctrl-C ends at once\noctofix: stopped by Ctrl-C(: the map .*)?\n$")
+        self.assertEqual(content_of("a.bt"), content_of("wanted.bt"))
 
     def test_twice(self):
         run = self.slow_map(60)

@@ -28,9 +28,9 @@ def shares(scan: Scan, lattice: Lattice, reach: float | None) -> dict[Place, Int
 
 
 def _judge(scan: Scan, beams: Ints, lattice: Lattice) -> None:
-    is_long = (np.abs(beams) // lattice.edge + 1 > lattice.longest).any(axis=1)
-    if is_long.any():
-        index = int(is_long.argmax())
+    most = lattice.edge * lattice.longest
+    if np.abs(beams).max(initial=0) >= most:
+        index = int((np.abs(beams) >= most).any(axis=1).argmax())
         said = f"its point {index} is over {lattice.longest} voxels away on an axis (--range)"
         raise BadTiles(said, scan.name)
 
@@ -46,18 +46,24 @@ def met(lattice: Lattice, origins: Ints, ways: Ints, margin: int = 0) -> tuple[I
     rows, found = np.arange(len(ways)), []
     while len(rows):
         wide = high - low
-        is_one = ~wide.any(axis=1)
+        is_one = _axes(wide) == 0
         found.append((rows[is_one], low[is_one]))
         rows, low, high, wide = (it[~is_one] for it in (rows, low, high, wide))
         rows, low, high = _halved(rows, low, high, wide)
         # (where a box is wide on one axis alone the way meets each tile of it)
-        asked = np.flatnonzero((wide > 0).sum(axis=1).repeat(2) > 1)
+        asked = np.flatnonzero(_axes(wide).repeat(2) > 1)
         is_near, some = np.ones(len(rows), bool), rows[asked]
         box = lattice.box(low[asked])[0], lattice.box(high[asked])[1]
         is_near[asked] = _come_near(origins[some], ways[some], *box, lattice.edge)
         rows, low, high = rows[is_near], low[is_near], high[is_near]
     none = np.empty(0, np.int64), np.empty((0, 3), np.int64)
     return tuple(map(np.concatenate, zip(none, *found)))
+
+
+def _axes(wide: Ints) -> np.ndarray:
+    """On how many axes each is above 0."""
+    x, y, z = (wide > 0).T.astype(np.int8)
+    return x + y + z
 
 
 def _halved(rows: Ints, low: Ints, high: Ints, wide: Ints) -> tuple[Ints, Ints, Ints]:
@@ -77,8 +83,12 @@ def _come_near(origins: Ints, ways: Ints, low: Ints, high: Ints, edge: int) -> n
     # (a way of no length on an axis is beside the box there, or has infinite bounds)
     with np.errstate(divide="ignore", invalid="ignore"):
         one, other = low / ways, high / ways
-    enters = np.fmin(one, other).max(axis=1, initial=0)
-    return enters <= np.fmax(one, other).min(axis=1, initial=1)
+    # (numpy is slow to go along an axis of three)
+    enters, leaves = np.zeros(len(ways)), np.ones(len(ways))
+    for axis in range(3):
+        np.maximum(enters, np.fmin(one[:, axis], other[:, axis]), out=enters)
+        np.minimum(leaves, np.fmax(one[:, axis], other[:, axis]), out=leaves)
+    return enters <= leaves
 
 
 def packed(origin: Ints, beams: Ints) -> bytes:

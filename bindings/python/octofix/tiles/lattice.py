@@ -3,6 +3,7 @@
 from __future__ import annotations
 
 from dataclasses import dataclass
+from typing import Iterator
 
 import numpy as np
 import numpy.typing as npt
@@ -76,13 +77,22 @@ def tile_of(name: str) -> Place:
     return x, y, z
 
 
-def grouped(tiles: Ints):
-    """Each of the tiles that are there once, and the rows that have it."""
+def grouped(tiles: Ints) -> Iterator[tuple[Place, Ints]]:
+    """Each of the tiles that are there once, and the rows that have it, in their order."""
     if not len(tiles):
         return
-    found, which = np.unique(tiles, axis=0, return_inverse=True)
-    which = which.reshape(-1)
-    order = np.argsort(which, kind="stable")
-    ends = np.cumsum(np.bincount(which))[:-1]
-    for tile, rows in zip(found.tolist(), np.split(order, ends)):
-        yield tuple(tile), rows
+    numbers = _numbers(tiles)
+    order = np.argsort(numbers, kind="stable")
+    firsts = np.flatnonzero(np.diff(numbers[order])) + 1
+    for rows in np.split(order, firsts):
+        yield tuple(tiles[rows[0]].tolist()), rows
+
+
+def _numbers(tiles: Ints) -> npt.NDArray:
+    """A number for each tile, in few bits, by which they are soon sorted."""
+    places = tiles - tiles.min(axis=0)
+    width, depth, height = (int(it) + 1 for it in places.max(axis=0))
+    if width * depth * height >= 1 << 63:
+        return np.unique(tiles, axis=0, return_inverse=True)[1].reshape(-1)
+    numbers = (places[:, 0] * depth + places[:, 1]) * height + places[:, 2]
+    return numbers.astype(np.uint16) if width * depth * height <= 1 << 16 else numbers

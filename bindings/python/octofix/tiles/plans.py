@@ -22,7 +22,7 @@ from .errors import BadTiles
 from .lattice import Lattice
 
 # Into about how many pieces clouds are parted, and the bytes that a piece has at least and at most.
-CHUNKS, LEAST, MOST = 400, 8 << 20, 64 << 20
+CHUNKS, LEAST, MOST = 400, 4 << 20, 64 << 20
 # What options read beside the clouds.
 _BESIDE = ("poses", "times")
 

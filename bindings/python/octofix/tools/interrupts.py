@@ -31,7 +31,7 @@ class Interrupts:
 
     def _forget(self):
         self.first = self.waits_for = None
-        self.is_waiting = False
+        self.is_waiting = self.is_told = False
 
     @contextlib.contextmanager
     def heard(self):
@@ -89,9 +89,10 @@ class Interrupts:
             raise KeyboardInterrupt
 
     def finish(self, what, work, *words):
-        """What the work answers, for which an interrupt waits, and says so. A second one ends this
-        at once, and the work goes on in its thread until the process ends."""
-        answers, faults, is_done, is_said = [], [], threading.Event(), False
+        """What the work answers, for which an interrupt waits, or one that came before has to, and
+        says so. A second one ends this at once, and the work goes on in its thread until the
+        process ends."""
+        answers, faults, is_done = [], [], threading.Event()
 
         def do():
             try:
@@ -104,8 +105,8 @@ class Interrupts:
         with self.held(what):
             threading.Thread(target=do, daemon=True).start()
             while not is_done.wait(LOOK):
-                if self.is_waiting and not is_said:
-                    is_said = True
+                if self.first is not None and not self.is_told:
+                    self.is_told = True
                     say(f"{self.name()} waits for {what}; a second Ctrl-C ends at once")
         if faults:
             raise faults[0]

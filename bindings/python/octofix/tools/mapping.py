@@ -1,6 +1,7 @@
 """Scans into a map, and into the script of commands that makes the same map."""
 
 import contextlib
+from functools import partial
 
 import numpy as np
 
@@ -39,6 +40,17 @@ class Mapper:
 
     def begin(self, scans):
         """Looks at scans that are to come."""
+
+    def todo(self, scans):
+        """For each scan in turn what does it; a scan that can't be done goes to their skips."""
+        for scan in scans:
+            yield partial(self._judge, scan, scans.skips)
+
+    def _judge(self, scan, skips):
+        try:
+            self.add(scan)
+        except Unusable as why:
+            skips.judge(why)
 
     def add(self, scan):
         """Does one scan whole; where that is refused nothing is done, and it is Unusable."""

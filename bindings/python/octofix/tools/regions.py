@@ -2,6 +2,7 @@
 
 import math
 from dataclasses import dataclass
+from typing import NamedTuple
 
 import numpy as np
 
@@ -43,6 +44,15 @@ class Region:
     def corners(self, edge):
         """The middles of both voxels in metres, of voxels with an edge of so many nanometres."""
         return [(np.array(it) * edge + edge // 2) / NANO for it in (self.low, self.high)]
+
+
+class Cut(NamedTuple):
+    """Regions, or trees of cuts, before the voxel `at` on an axis, and from it on."""
+
+    axis: int
+    at: int
+    before: object
+    after: object
 
 
 class Parts:
@@ -102,17 +112,44 @@ def sample(scan, edge, reach, weight=1):
     return Samples(voxels.clip(LOWEST, HIGHEST), weights)
 
 
-def near(scan, region, edge, reach):
-    """Which beams of a scan come nearer to a region than a voxel's edge, by which they may be
-    rounded: no other one goes through a voxel of it. (n,) truth values."""
-    beams = cut_off(scan.points, reach).astype(float)
-    low = np.subtract(region.low, 1) * edge - scan.origin
-    high = np.add(region.high, 2) * edge - scan.origin
-    # (a beam of no length on an axis is beside the region there, or has infinite bounds)
-    with np.errstate(divide="ignore", invalid="ignore"):
-        one, other = low / beams, high / beams
-    enters = np.minimum(one, other).max(axis=1, initial=0)
-    return enters <= np.maximum(one, other).min(axis=1, initial=1)
+def parted(scan, tree, edge, reach):
+    """For each region of a tree of cuts, in their order, the numbers of the beams of a scan that
+    come nearer to it than a voxel's edge, by which they may be rounded: no other one goes through a
+    voxel of it."""
+    ways = cut_off(scan.points, reach)
+    whole = np.arange(len(ways)), np.zeros(len(ways)), np.ones(len(ways))
+    columns = [np.ascontiguousarray(it, float) for it in ways.T]
+    # (a beam of no length on an axis is on one side of a cut, or on both)
+    with np.errstate(divide="ignore"):
+        inverse = [1 / it for it in columns]
+    found = []
+    _part(tree, whole, (columns, inverse, scan.origin.tolist(), edge), found)
+    return found
+
+
+def _part(tree, kept, beams, found):
+    """Goes down a tree with the beams that come near to it: their numbers, and where on their ways
+    they enter it and leave it, from 0 to 1."""
+    if not isinstance(tree, Cut):
+        found += [kept[0]] * (tree is not None)
+        return
+    # (each side has the voxel of the other one that is next to it)
+    _part(tree.before, _before(kept, beams, tree.axis, tree.at + 1), beams, found)
+    _part(tree.after, _before(kept, beams, tree.axis, tree.at - 1, -1), beams, found)
+
+
+def _before(kept, beams, axis, at, sign=1):
+    """Those of the beams that come to where a voxel `at` on an axis begins, or, with a sign of -1,
+    come from there on."""
+    (numbers, enters, leaves), (ways, inverse, origin, edge) = kept, beams
+    way, away = ways[axis][numbers] * sign, at * edge - origin[axis]
+    with np.errstate(invalid="ignore"):
+        met = away * inverse[axis][numbers]
+    is_there = away * sign >= 0
+    enters = np.where(way < 0, np.maximum(enters, met), enters)
+    leaves = np.where(way > 0, np.minimum(leaves, met), leaves)
+    keep = (enters <= leaves) & ((way != 0) | is_there)
+    return numbers[keep], enters[keep], leaves[keep]
 
 
 def cut_off(beams, reach):
@@ -124,25 +161,35 @@ def cut_off(beams, reach):
     return np.rint(beams * np.minimum(part, 1)[:, None]).astype(np.int64)
 
 
-def cut(samples, count):
-    """So many regions that are the whole together, each with about as much to do."""
-    return _cut(samples, np.ones(samples.voxels.shape[:2], bool), count, Region())
+def cut(samples, count, only=None):
+    """So many regions that are the whole together, each with about as much to do, as a tree of
+    cuts; None stands for those that aren't the one of this number, from 0, where one is wanted."""
+    is_in = np.ones(samples.voxels.shape[:2], bool)
+    return _cut(samples, is_in, count, Region(), range(count) if only is None else [only])
 
 
-def _cut(samples, is_in, count, region):
+def regions_in(tree):
+    """The regions of a tree of cuts, in their order."""
+    if isinstance(tree, Cut):
+        return [*regions_in(tree.before), *regions_in(tree.after)]
+    return [] if tree is None else [tree]
+
+
+def _cut(samples, is_in, count, region, wanted):
     """Those that are this one together, in which these places of the beams are."""
+    if not any(0 <= it < count for it in wanted):
+        return None
     if count == 1:
-        return [region]
+        return region
     few = count // 2
     axis, at = _best_cut(samples, is_in, few, count, region)
     is_before = is_in & (samples.voxels[..., axis] < at)
     before, after = region.parted(axis, at)
     # (each has a voxel at least)
     few = min(max(few, count - after.size()), before.size())
-    return [
-        *_cut(samples, is_before, few, before),
-        *_cut(samples, is_in & ~is_before, count - few, after),
-    ]
+    first = _cut(samples, is_before, few, before, wanted)
+    wanted = [it - few for it in wanted]
+    return Cut(axis, at, first, _cut(samples, is_in & ~is_before, count - few, after, wanted))
 
 
 def _best_cut(samples, is_in, few, count, region):

@@ -89,6 +89,10 @@ class Scans:
 
     def __iter__(self):
         yield from self.of_files(0, len(self.names))
+        self.check()
+
+    def check(self):
+        """Stops where there are more or fewer poses than there were clouds."""
         if self.trajectory is not None and not self.skips.count:
             self.trajectory.check(self.clouds)
 

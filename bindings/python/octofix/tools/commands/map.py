@@ -151,8 +151,8 @@ def _begin(mapper, scans, progress):
     try:
         with INTERRUPTS.held(None):
             mapper.begin(scans)
-            for scan in scans:
-                INTERRUPTS.finish("the running scan", _add, mapper, scan, scans.skips)
+            for do_next in mapper.todo(scans):
+                INTERRUPTS.finish("the running scan", do_next)
                 _show(mapper, progress)
                 INTERRUPTS.take()
     except Abandoned:
@@ -160,13 +160,6 @@ def _begin(mapper, scans, progress):
     except KeyboardInterrupt:
         return True
     return False
-
-
-def _add(mapper, scan, skips):
-    try:
-        mapper.add(scan)
-    except Unusable as why:
-        skips.judge(why)
 
 
 def _show(mapper, progress):
