@@ -24,7 +24,7 @@ from concurrent.futures import Executor
 from typing import Sequence
 
 from . import engines, folder as _files, plans, runs, steps
-from .errors import BadTiles
+from .errors import BadTiles, as_bad_tiles
 from .parts import Leaves
 from .store import Part, Tiles, create, settings_of
 
@@ -48,8 +48,8 @@ def build(
     steps, or else this process. Where the same was begun before and ended, it goes on; where it was
     done nothing is done.
 
-    BadTiles, OSError, or what the clouds are refused for (BadTiles is one of them, and has the
-    words): the tiles are as they were, none. ValueError for wrong words.
+    BadTiles for what can't be used or isn't whole, and OSError as of a full disk: the tiles are as
+    they were, none. ValueError for wrong words.
     """
     settings = settings_of(res, edge, max_groups, **odds)
     return _do(os.fspath(folder), words, executor, settings)
@@ -76,7 +76,7 @@ def abandon(folder: str | os.PathLike[str]) -> None:
 
 def _do(folder, words, executor, settings, is_again=False) -> Tiles:
     options = plans.options_of(words)
-    with _files.made(folder), _files.writing(folder):
+    with as_bad_tiles(), _files.made(folder), _files.writing(folder):
         run = steps.begin(folder, options, settings, is_again)
         if run is not None:
             runs.do(folder, run, engines.Engine(executor or engines.Here()))

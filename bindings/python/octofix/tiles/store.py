@@ -13,7 +13,7 @@ from octofix.tools.lengths import FARTHEST, nanometres
 
 from . import casting, engines, folder as files, given, parts, runs, steps
 from .cache import Cache
-from .errors import BadTiles
+from .errors import BadTiles, as_bad_tiles
 from .lattice import HALF, LEAST, MOST, NANO, Ints, Place, grouped, tile_of
 from .plans import Settings
 from .trees import Leaves
@@ -284,7 +284,7 @@ class Tiles:
         folder, and else in this process.
         """
         engine = engines.Engine(executor or engines.Here())
-        with files.writing(self.folder):
+        with as_bad_tiles(), files.writing(self.folder):
             run = given.begin(self.folder, range)
             try:
                 steps.part_given(self.folder, run, given.scans_of(scans))
