@@ -83,8 +83,8 @@ class Workers(InFolder):
         process = self.start("cluster.py", self.port)
         return process, [int(it) for it in process.stdout.readline().split()]
 
-    def build(self):
-        address = f"tcp://127.0.0.1:{self.port}"
+    def build(self, address=None):
+        address = address or f"tcp://127.0.0.1:{self.port}"
         words = ["tiles", "build", "town", "--res", "0.1", "--edge", "6.4"]
         # (the client itself holds nothing)
         environment = self.environment
@@ -143,6 +143,10 @@ class Workers(InFolder):
         process = self.build()
         said = f"octofix: there is no scheduler at tcp://127.0.0.1:{self.port}\n"
         self.assertEqual((process.communicate()[1], process.returncode), (said, 1))
+        process = self.build("head")
+        said = "octofix: 'head' is no address of a scheduler, as tcp://head:8786\n"
+        self.assertEqual((process.communicate()[1], process.returncode), (said, 1))
+        self.assertFalse(os.path.exists("town"))
 
 
 if __name__ == "__main__":

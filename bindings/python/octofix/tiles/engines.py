@@ -9,6 +9,7 @@ import errno
 import logging
 import multiprocessing
 import os
+import re
 import signal
 import threading
 import time
@@ -28,7 +29,7 @@ ATTEMPTS = 3
 # being done is given to other workers, too.
 PATIENCE, TIMES = 60.0, 4
 # How long a scheduler that is gone is waited for, and how long one that wasn't there yet.
-RETURN, COME = 600.0, 15.0
+RETURN, COME = 600.0, 10.0
 _SIGNALS = {signal.SIGINT, signal.SIGTERM, signal.SIGHUP}
 # What no other worker can do either.
 _FINAL = (errno.ENOSPC, errno.EDQUOT, errno.EFBIG, errno.EROFS, errno.EACCES, errno.EPERM)
@@ -115,6 +116,8 @@ class Scheduler(Engine):
 
     def __init__(self, address: str) -> None:
         self._distributed = needed("distributed", "--scheduler")
+        if not re.fullmatch(r"([a-z]+://)?[^/]+:\d+", address):
+            raise BadTiles(f"{address!r} is no address of a scheduler, as tcp://head:8786")
         self._address, self._client = address, None
         # (its client tells of each connection that is lost, many lines long)
         logging.getLogger("distributed").setLevel(logging.CRITICAL)
@@ -133,8 +136,6 @@ class Scheduler(Engine):
                 if left < 1:
                     return False
                 time.sleep(0.5)
-            except ValueError as error:
-                raise BadTiles(f"{self._address} is no address, as tcp://head:8786: {error}")
             else:
                 super().__init__(self._client.get_executor(pure=False))
                 return True

@@ -73,8 +73,10 @@ def do(options, settings):
             stack.enter_context(files.made(folder))
             if is_alone:
                 stack.enter_context(files.writing(folder))
+            # (before a run is begun, which a wrong address would leave there)
+            engine = stack.enter_context(engines.closing(_engine(options)))
             run = _begun(options, settings)
-            return DONE if run is None else _do(options, run)
+            return DONE if run is None else _do(options, run, engine)
     except KeyboardInterrupt:
         raise KeyboardInterrupt(KEPT) from None
 
@@ -94,7 +96,7 @@ def _begun(options, settings):
     return run
 
 
-def _do(options, run):
+def _do(options, run, engine):
     folder, shown = options.folder, Steps(is_terminal() and not options.quiet)
 
     def told(what, job, done, count, total):
@@ -102,18 +104,16 @@ def _do(options, run):
         for line in done.get("said", ()):
             say(line)
 
-    here = engines.Engine(engines.Here())
     try:
         if options.part:
             jobs = runs.share(steps.chunks(folder, run), *options.part)
-            engines.each(here, steps.part, folder, run, jobs, told)
+            engines.each(engine, steps.part, folder, run, jobs, told)
             return DONE
         if options.build:
             jobs = runs.share(steps.gathered(folder, run)["slices"], *options.build)
-            engines.each(here, steps.build, folder, run, jobs, told)
+            engines.each(engine, steps.build, folder, run, jobs, told)
             return DONE
-        with engines.closing(_engine(options)) as engine:
-            found = runs.do(folder, run, engine, told)
+        found = runs.do(folder, run, engine, told)
     finally:
         shown.close()
     if not options.quiet:
