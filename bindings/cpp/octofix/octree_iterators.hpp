@@ -123,6 +123,13 @@ class OcTreeLeafIterator : public OcTreePlace {
     /// Stands at the first node, from this leaf and part of it on, that meets the box. The leaves
     /// are those that do; only of a leaf that is parted not all parts may.
     void settle() {
+        if (is_end()) return;
+        if (leaf().depth > max_depth() || leaves_->are_voxels_alone()) return settle_by_depth();
+        next_ = at_ + 1;
+        stand_on_leaf(low_of(leaf()), leaf().depth);
+    }
+    /// The same where leaves are parted or put together. (The way of most leaves is the inlined one.)
+    [[gnu::noinline]] void settle_by_depth() {
         for (; !is_end(); at_ = next_, part_ = next_part_) {
             next_ = at_ + 1, next_part_ = 0;
             if (leaf().depth > max_depth())
