@@ -6,8 +6,8 @@
 //     for (const auto &leaf : world.leaves()) { .. }
 //
 // Units. Points are octofix_point, in whole nanometres, and metres() makes them: a number of metres
-// is multiplied by 10^9 in double and rounded to the nearest whole number, halves to the even one. A
-// number that isn't finite, or of magnitude 10^7 or more, and a range below 0, is refused by
+// is multiplied by 10^9 in double and rounded to the nearest whole number, halves to the even one.
+// A number that isn't finite, or of magnitude 10^7 or more, and a range below 0, is refused by
 // bad_length, which has the index of the first point at fault; that happens before the map is
 // called. What is known of a voxel, its value, is in thousandths of log-odds, as in octofix.h.
 //

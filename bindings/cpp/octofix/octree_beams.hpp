@@ -150,8 +150,8 @@ inline void OcTreeOccupancy::insert_by_voxels(const Pointcloud &scan, const poin
 }
 
 /// What the library does with a scan from outside the map: it hits the ends, and frees nothing.
-inline void OcTreeOccupancy::hit_ends(const Pointcloud &scan, const point3d &origin, double maxrange,
-                             bool lazy, bool in_box) {
+inline void OcTreeOccupancy::hit_ends(const Pointcloud &scan, const point3d &origin,
+                                      double maxrange, bool lazy, bool in_box) {
     KeySet ends;
     OcTreeKey key;
     for (const point3d &p : scan)
@@ -162,7 +162,8 @@ inline void OcTreeOccupancy::hit_ends(const Pointcloud &scan, const point3d &ori
 
 // Rays.
 
-inline point OcTreeOccupancy::far_end(const point &from, const point3d &direction, double max_range) const {
+inline point OcTreeOccupancy::far_end(const point &from, const point3d &direction,
+                                      double max_range) const {
     const double length = direction.norm();
     if (!(length > 0) || std::isinf(length)) return from;
     const std::int64_t low = -32768 * edge(), high = 32768 * edge() - 1;
@@ -184,20 +185,22 @@ inline point OcTreeOccupancy::far_end(const point &from, const point3d &directio
 }
 
 inline bool OcTreeOccupancy::castRay(const point3d &origin, const point3d &direction, point3d &end,
-                            bool ignore_unknown, double max_range) const {
+                                     bool ignore_unknown, double max_range) const {
     OcTreeKey key;
     if (!coordToKeyChecked(origin, key)) return false;
     const point from = exact(origin), to = far_end(from, direction, max_range);
     const stop first = exact_map().cast(from, to, ignore_unknown);
     if (first.code == OCTOFIX_CLEAR)
-        coordToKeyChecked(detail::in_metres(to.x), detail::in_metres(to.y), detail::in_metres(to.z), key);
+        coordToKeyChecked(detail::in_metres(to.x), detail::in_metres(to.y),
+                          detail::in_metres(to.z), key);
     else
         key = {first.key.x, first.key.y, first.key.z};
     end = keyToCoord(key);
     return first.code == OCTOFIX_DONE;
 }
 
-inline bool OcTreeOccupancy::computeRayKeys(const point3d &origin, const point3d &end, KeyRay &ray) const {
+inline bool OcTreeOccupancy::computeRayKeys(const point3d &origin, const point3d &end,
+                                            KeyRay &ray) const {
     ray.reset();
     OcTreeKey key;
     if (!coordToKeyChecked(origin, key) || !coordToKeyChecked(end, key)) return false;
@@ -208,7 +211,7 @@ inline bool OcTreeOccupancy::computeRayKeys(const point3d &origin, const point3d
 }
 
 inline bool OcTreeOccupancy::computeRay(const point3d &origin, const point3d &end,
-                               std::vector<point3d> &ray) const {
+                                        std::vector<point3d> &ray) const {
     KeyRay keys;
     if (!computeRayKeys(origin, end, keys)) return false;
     ray.clear();
@@ -217,8 +220,8 @@ inline bool OcTreeOccupancy::computeRay(const point3d &origin, const point3d &en
 }
 
 inline bool OcTreeOccupancy::getRayIntersection(const point3d &origin, const point3d &direction,
-                                       const point3d &center, point3d &intersection,
-                                       double delta) const {
+                                                const point3d &center, point3d &intersection,
+                                                double delta) const {
     const double half = getResolution() / 2;
     double nearest = std::numeric_limits<double>::infinity();
     for (unsigned axis = 0; axis < 3; ++axis)

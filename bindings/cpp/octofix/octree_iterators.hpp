@@ -128,7 +128,7 @@ class OcTreeLeafIterator : public OcTreePlace {
         next_ = at_ + 1;
         stand_on_leaf(low_of(leaf()), leaf().depth);
     }
-    /// The same where leaves are parted or put together. (The way of most leaves is the inlined one.)
+    /// The same where leaves are parted or put together. (That of most leaves is to be inlined.)
     [[gnu::noinline]] void settle_by_depth() {
         for (; !is_end(); at_ = next_, part_ = next_part_) {
             next_ = at_ + 1, next_part_ = 0;

@@ -1,5 +1,5 @@
-// The methods of OcTree that change what is known: updates, scans, the model of a sensor, the box of
-// scans, and what has changed. Part of octofix_octree.hpp.
+// The methods of OcTree that change what is known: updates, scans, the model of a sensor, the box
+// of scans, and what has changed. Part of octofix_octree.hpp.
 #ifndef OCTOFIX_OCTREE_OCCUPANCY_HPP
 #define OCTOFIX_OCTREE_OCCUPANCY_HPP
 
