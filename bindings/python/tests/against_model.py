@@ -246,7 +246,7 @@ class Side:
         self.open(0.1)
 
     def open(self, res):
-        settings = {"max_groups": 4000, "max_cells": 3000}
+        settings = {"max_groups": 4000, "max_cells": 3000, "threshold": 5}
         self.map = self.module.Map(res, **settings)
         self.other = self.module.Map(res, **settings)
         self.other.set([[0, 0, 0], [1, 0, 0]], [7, -7])
