@@ -8,9 +8,9 @@ from typing import Any, TypeVar
 import numpy as np
 import numpy.typing as npt
 
-from . import _arrays, _files
+from . import _arrays, _files, _parts
 from ._blocks import Blocks, blocks_of, voxels_in
-from ._errors import OTHER_RESOLUTION, Closed, Refused
+from ._errors import OTHER_RESOLUTION, TOO_MANY_CELLS, Closed, Refused
 from ._results import UNKNOWN, Box, Changes, Counted, Counts, LeastTree, Limits, Odds, Rule
 from ._support import native
 
@@ -209,6 +209,42 @@ class Map(native.Map):
         rows, place = _arrays.nanometres(points, "points"), _arrays.nanometres(origin, "origin")
         reach = -1 if range is None else int(_arrays.integers(range, "range", 0, _arrays.FARTHEST))
         return self._scan_nm(rows, place, reach, hit, miss, lazy)
+
+    def scan_in_parts(
+        self,
+        points: npt.ArrayLike,
+        origin: npt.ArrayLike = (0, 0, 0),
+        quaternion: npt.ArrayLike = (1, 0, 0, 0),
+        range: float | None = None,
+        *,
+        hit: int | None = None,
+        miss: int | None = None,
+    ) -> Counted:
+        """`scan` of however many beams, whatever voxels they meet, which a Ctrl-C stops soon.
+
+        They are gathered in parts, in a map of their own, and then each voxel is hit or freed once,
+        as ever; it takes about twice as long, and other threads may see it half done. A Ctrl-C is
+        `Interrupted`, with the map as it was. Refused as `scan`, 8 for a single beam alone; and 27
+        while a mark stands, as `edit_box`. Where a mark stands, what is refused or interrupted
+        may be half done.
+        """
+        def do(world: Map, some: npt.ArrayLike, **odds: int | None) -> Counted:
+            return world.scan(some, origin, quaternion, range, **odds)
+
+        rows = _arrays.rows_of_three(points, "points")
+        if len(rows) <= _parts.MOST_POINTS:
+            try:
+                return do(self, rows, hit=hit, miss=miss)
+            except Refused as refused:
+                if refused.code != TOO_MANY_CELLS or len(rows) == 1:
+                    raise
+        own_hit, own_miss = _arrays.own_odds(hit, miss)
+        odds = (own_hit, own_miss) if own_hit or own_miss else self.odds[:2]
+        do(self, rows[:0], hit=hit, miss=miss)  # (which refuses what isn't of the points)
+        with Map(self.resolution, **_parts.settings(self)) as own:
+            if self.window is not None:
+                own.limit(*self.centers(self.window))
+            return _parts.scan(self, own, rows, do, odds)
 
     def _edit_boxes(
         self,
