@@ -86,7 +86,8 @@ double set_all(octofix::map *world, const octofix::point *points, std::size_t co
 double cast_all(octofix::map *world, const octofix::point *points, std::size_t count,
                 std::size_t rounds) {
     std::vector<octofix::segment> ways(count);
-    for (std::size_t it = 0; it < count; it++) ways[it] = {{50000000, 50000000, 50000000}, points[it]};
+    const octofix::point here{50000000, 50000000, 50000000};
+    for (std::size_t it = 0; it < count; it++) ways[it] = {here, points[it]};
     return time_of(rounds, [&] { kept = world->cast_all(ways).size(); });
 }
 }

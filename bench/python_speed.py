@@ -4,9 +4,9 @@ where one takes longer than it may.
 
     bench/python_speed.py [--library FOLDER]
 
-Needs numpy, Python.h and g++. Both are done in turns by one thread. Of single calls the least time counts, of
-batches the median of how many times as long Python takes, so other work on the machine matters
-little.
+Needs numpy, Python.h and g++. Both are done in turns by one thread. Of single calls the least time
+counts, of batches the median of how many times as long Python takes, so other work on the machine
+matters little.
 """
 import ctypes
 import os
@@ -124,7 +124,8 @@ def measure_batches(world, beside, draw):
     world.set(many, 5)
     for name, number in (("one number", 5), ("a number each", numbers)):
         call = (beside, "set_all", many)
-        measure_ratio(f"set of {COUNT} points to {name}", lambda: world.set(many, number), 1.1, call)
+        name = f"set of {COUNT} points to {name}"
+        measure_ratio(name, lambda: world.set(many, number), 1.1, call)
     ways = many[: COUNT // 10]
     measure_ratio(f"cast of {len(ways)} ways", lambda: world.cast(HERE, ways), 1.1,
                   (beside, "cast_all", ways))  # fmt: skip

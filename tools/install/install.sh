@@ -5,9 +5,9 @@
 #
 # HOW is proved or unproved; what isn't proved gets names of its own. ARCHIVE is what the kit made
 # of the library, and VERSION what the installed command answers to --version. LAYOUT is debian
-# where PREFIX is the folder usr of Debian; else, with none or prefix, all finds its files from where
-# it stands. MODULE is the compiled module of the Python package; else it is compiled here, and where
-# it can't be, the package and its tools aren't installed.
+# where PREFIX is the folder usr of Debian; else, with none or prefix, all finds its files from
+# where it stands. MODULE is the compiled module of the Python package; else it is compiled here, and
+# where it can't be, the package and its tools aren't installed.
 
 root=$(dirname -- "$(readlink -f -- "$0")")/../.. && . "$root/tools/install/words.sh" || exit 1
 parts=$root/tools/install

@@ -164,8 +164,9 @@ try_sources() {
         "$1" -c "import octofix_build as b; b.build_sdist('$room')") >/dev/null
     wanted="octofix can't be built: no C compiler is here"
     export OCTOFIX_LIBRARY=$2
+    CC=/no/cc "$1" -m pip install "$room"/octofix-*.tar.gz >"$room/said" 2>&1
     expect 'pip refuses sources without a compiler' "$wanted" \
-        "$(CC=/no/cc "$1" -m pip install "$room"/octofix-*.tar.gz 2>&1 | grep -o "$wanted" | head -1)"
+        "$(grep -o "$wanted" "$room/said" | head -1)"
     command -v cc >/dev/null || return
     pass 'pip installs sources with a library' "$1" -m pip install "$room"/octofix-*.tar.gz
     unset OCTOFIX_LIBRARY

@@ -1,5 +1,5 @@
-"""The wheel: the package with its library, which the pip of any Python from 3.9 on takes where glibc
-is new enough."""
+"""The wheel: the package with its library, which the pip of any Python from 3.9 on takes where
+glibc is new enough."""
 
 from pathlib import Path
 

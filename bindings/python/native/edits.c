@@ -252,9 +252,9 @@ const PyMethodDef edit_methods[] = {
     FAST(edit,
          "edit($self, points, event, number=0, *, lazy=False)\n--\n\n"
          "Edits the voxels that hold `points`, (n, 3) in metres, one after another.\n\n"
-         "`event`, an `Event`, and `number`, in thousandths, are one for all points or (n,); beside\n"
-         "`FORGET` and `LIKELY` a number means nothing. A lazy edit leaves depths below 16 to\n"
-         "`refresh`. Where point `index` is refused (23, 24), those before it are done, and none\n"
+         "`event`, an `Event`, and `number`, in thousandths, are one for all points or (n,);\n"
+         "beside `FORGET` and `LIKELY` a number means nothing. A lazy edit leaves depths below 16\n"
+         "to `refresh`. Where point `index` is refused (23, 24), those before it are done, and none\n"
          "after it; so where `OutOfMemory` is raised with an `index`."),
     FAST(set, "set($self, points, number, *, lazy=False)\n--\n\n"
               "Gives `number` to the voxels that hold `points`, (n, 3), as `edit`."),

@@ -12,7 +12,8 @@ bool is_map(PyObject *it) { return PyObject_TypeCheck(it, map_type); }
 
 /* -- a map comes and goes */
 
-static PyObject *map_new(PyTypeObject *type, PyObject *Py_UNUSED(args), PyObject *Py_UNUSED(named)) {
+static PyObject *map_new(PyTypeObject *type, PyObject *Py_UNUSED(args),
+                         PyObject *Py_UNUSED(named)) {
     if (!is_set_up) {
         PyErr_SetString(PyExc_RuntimeError, "octofix._native is set up by octofix");
         return NULL;

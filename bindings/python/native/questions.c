@@ -331,8 +331,8 @@ const PyMethodDef question_methods[] = {
          "get($self, points, depth=16)\n--\n\n"
          "The values at `points`, (n, 3) in metres, int32 (n,), and `UNKNOWN` where nothing is\n"
          "known.\n\n"
-         "At a depth below 16 it is the largest known value in the block around the point. Refused:\n"
-         "24 (`index`), 25, and 22 where the map is stale and the depth is below 16."),
+         "At a depth below 16 it is the largest known value in the block around the point.\n"
+         "Refused: 24 (`index`), 25, and 22 where the map is stale and the depth is below 16."),
     FAST(classes,
          "classes($self, points, depth=16)\n--\n\n"
          "The `VoxelClass` at `points`, int8 (n,): that of the value that `get` answers."),

@@ -228,19 +228,21 @@ class Map(native.Map):
         while a mark stands, as `edit_box`. Where a mark stands, what is refused or interrupted
         may be half done.
         """
-        def do(world: Map, some: npt.ArrayLike, **odds: int | None) -> Counted:
-            return world.scan(some, origin, quaternion, range, **odds)
+        def do(
+            world: Map, some: npt.ArrayLike, hit: int | None = None, miss: int | None = None
+        ) -> Counted:
+            return world.scan(some, origin, quaternion, range, hit=hit, miss=miss)
 
         rows = _arrays.rows_of_three(points, "points")
         if len(rows) <= _parts.MOST_POINTS:
             try:
-                return do(self, rows, hit=hit, miss=miss)
+                return do(self, rows, hit, miss)
             except Refused as refused:
                 if refused.code != TOO_MANY_CELLS or len(rows) == 1:
                     raise
         own_hit, own_miss = _arrays.own_odds(hit, miss)
         odds = (own_hit, own_miss) if own_hit or own_miss else self.odds[:2]
-        do(self, rows[:0], hit=hit, miss=miss)  # (which refuses what isn't of the points)
+        do(self, rows[:0], hit, miss)  # (which refuses what isn't of the points)
         with Map(self.resolution, **_parts.settings(self)) as own:
             if self.window is not None:
                 own.limit(*self.centers(self.window))

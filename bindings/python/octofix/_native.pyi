@@ -1,4 +1,4 @@
-"""The compiled module: the calls of `octofix.Map` that it has, and those that only the package uses."""
+"""The compiled module: calls of `octofix.Map`, and those that only the package uses."""
 
 from typing import Any
 

@@ -27,9 +27,11 @@ def settings(world: Map) -> dict[str, int]:
     return {**_ODDS, **world.limits._asdict()}
 
 
-def scan(world: Map, own: Map, points: npt.NDArray[Any], do: Scan, odds: tuple[int, int]) -> Counted:
-    """Does to a map what beams to all points do, each voxel hit or missed once; they are gathered in
-    a map of their own. What is refused or interrupted leaves the map as it was, but where a mark
+def scan(
+    world: Map, own: Map, points: npt.NDArray[Any], do: Scan, odds: tuple[int, int]
+) -> Counted:
+    """Does to a map what beams to all points do, each voxel hit or missed once; they are gathered
+    in a map of their own. What is refused or interrupted leaves the map as it was, but where a mark
     stands."""
     before = None
     try:

@@ -104,7 +104,8 @@ class Wheels(InFolder):
 
     def test_metadata(self):
         with self.wheel() as wheel:
-            info = next(it for it in wheel.namelist() if it.endswith("/METADATA"))[: -len("METADATA")]
+            info = next(it for it in wheel.namelist() if it.endswith("/METADATA"))
+            info = info[: -len("METADATA")]
             about = Parser().parsestr(wheel.read(f"{info}METADATA").decode())
             # License-File, and the text in `licenses`, are from 2.4 on
             self.assertGreaterEqual(tuple(map(int, about["Metadata-Version"].split("."))), (2, 4))
