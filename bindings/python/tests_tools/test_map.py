@@ -316,6 +316,28 @@ class Bags(InFolder):
         other = other.replace(" 0.49384417 1 1", " 7.49384417 1 1")
         self.assertEqual(script, other + wanted)
 
+    def test_quaternions_of_another_length(self):
+        """Of tf, of a topic of poses, and of a mount."""
+        rosbag = importlib.import_module("rosbag")
+        said = "a.bag: the quaternion has the length 2, and not 1"
+        for asked in ("/tf", "/tf_static", "/odom"):
+            with rosbag.Bag(str(DATA / "small.bag")) as whole, rosbag.Bag("a.bag", "w") as bad:
+                for topic, message, time in whole.read_messages():
+                    if topic == asked:
+                        self.double(message)
+                    bad.write(topic, message, time)
+            words = ["--pose-topic", "/odom"] if asked == "/odom" else ["--frame", "odom"]
+            self.refused(said, "map", "--res", 1, "a.bag", *words, "-o", "a.bt")
+
+    def double(self, message):
+        is_pose = hasattr(message, "pose")
+        turns = [message.pose.pose.orientation] if is_pose else [
+            it.transform.rotation for it in message.transforms
+        ]  # fmt: skip
+        for turn in turns:
+            for axis in "wxyz":
+                setattr(turn, axis, 2 * getattr(turn, axis))
+
     def test_by_its_first_bytes(self):
         os.symlink(DATA / "small.bag", "drive")
         cloud = "scan 0 0 0 1 0 0 0 all\np 2 0 0.25\np 0 1 0.5\nend\n"
