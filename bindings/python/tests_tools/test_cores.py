@@ -86,12 +86,13 @@ class Jobs(InFolder):
     def test_what_is_said(self):
         """Of clouds that have no pose, can't be read or say where they stood: as by one thread."""
         save_drive(np.random.default_rng(1))
-        with open("09.pcd", "w") as file:
-            file.write("VERSION .7\nFIELDS x y z\nSIZE 4 4 4\nTYPE F F F\nWIDTH 1\nHEIGHT 1\n"
-                       "VIEWPOINT 1 0 0 1 0 0 0\nPOINTS 1\nDATA ascii\n1 2 nan\n")
+        for name in ("09.pcd", "10.pcd"):
+            with open(name, "w") as file:
+                file.write("VERSION .7\nFIELDS x y z\nSIZE 4 4 4\nTYPE F F F\nWIDTH 1\nHEIGHT 1\n"
+                           "VIEWPOINT 1 0 0 1 0 0 0\nPOINTS 1\nDATA ascii\n1 2 nan\n")
         with open("20.xyz", "w") as file:
             file.write("no cloud")
-        clouds = [*CLOUDS, "09.pcd", "20.xyz", "09.pcd"]
+        clouds = [*CLOUDS, "09.pcd", "20.xyz", "10.pcd"]
         for words in (["--poses", "poses.tum", "--by-time"], []):
             words = [*words, "--on-error", "skip"]
             wanted = self.map(1, *words, status=3, clouds=clouds)
