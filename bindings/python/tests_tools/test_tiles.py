@@ -293,8 +293,25 @@ class Store(InFolder):
             town.grid((1, 0, 0), (0, 0, 0))
         with self.assertRaisesRegex(ValueError, "both or not at all"):
             town.to_map((0, 0, 0))
-        with self.assertRaisesRegex(tiles.BadTiles, "the way 1 has over 32510 voxels on an axis"):
-            town.cast((0, 0, 0), [[1, 0, 0], [0, 3252, 0]])
+        with self.assertRaisesRegex(tiles.BadTiles, "the way 1 has over 65278 voxels on an axis"):
+            town.cast((0, 0, 0), [[1, 0, 0], [0, 6528, 0]])
+
+    def test_casts_from_end_to_end(self):
+        """Ways of 60,000 voxels, which have no room in the map of one tile."""
+        with tiles.create("town", 0.1) as town, Map(0.1) as one:
+            for x in (-2900, -900, 1000, 2800):
+                scan = [[8, 0.1 * it, 0.3] for it in range(-9, 9)]
+                town.add([(scan, (x, 0, 0))])
+                one.scan(scan, (x, 0, 0))
+            ends = [[3000, it, 0.3] for it in np.linspace(-1, 1, 5)]
+            for first, last in (((-3000, 0.1, 0.3), ends), (ends, (-3000, 0.1, 0.3)),
+                                ((-2900, 0, 0), ends)):
+                for ignore in (False, True):
+                    ours, theirs = (it.cast(first, last, ignore) for it in (town, one))
+                    self.assertEqual(ours.kinds.tolist(), theirs.kinds.tolist())
+                    is_stopped = ours.kinds != CastKind.CLEAR
+                    wanted = theirs[1][is_stopped].astype(int) - 32768
+                    self.assertEqual(ours[1][is_stopped].tolist(), wanted.tolist())
 
     def test_a_merge_of_parts(self):
         """Boxes beside each other, joined, are all."""

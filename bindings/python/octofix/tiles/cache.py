@@ -8,7 +8,7 @@ from octofix import Map
 
 from . import folder as files
 from .lattice import Place
-from .parts import wall
+from .parts import moved
 from .plans import Settings
 from .steps import new_map
 
@@ -49,5 +49,6 @@ class Cache:
         if tile in self._entries:
             world.load_snapshot(files.read_tile(self._folder, tile, self._entries[tile]))
         if is_walled:
-            wall(world, self._settings)
+            middle = self._settings.lattice().shift(tile)
+            world.load_snapshot(moved(world, self._settings, tile, middle, True))
         return world

@@ -59,15 +59,20 @@ def _cubes_of(leaves: Leaves, lattice: Lattice) -> dict[Place, bytes]:
     return cubes
 
 
-def wall(world: Map, settings: Settings) -> None:
-    """Makes all free that lies in a tile's own map and not in the tile."""
+def moved(world: Map, settings: Settings, tile: Place, middle: Ints, is_walled: bool) -> bytes:
+    """The snapshot of a tile's own map in one around the voxel `middle` of the world, a corner of
+    cubes of half a tile's edge. Walled, all that lies there and not in the tile is free."""
     lattice = settings.lattice()
-    found = _cubes_of(leaves_of(world, lattice, (0, 0, 0)), lattice)
-    middle = HALF // (lattice.side // 2)
-    cubes = {(x + middle, y + middle, z + middle): found.get((x, y, z), UNKNOWN)
-             for x, y, z in itertools.product((-1, 0), repeat=3)}  # fmt: skip
-    node = joined(cubes, 16 - (lattice.log2 - 1), whole(settings.odds.min))
-    world.load_snapshot(header(settings.resolution, settings.odds) + node)
+    half, depth = lattice.side // 2, 16 - (lattice.log2 - 1)
+    found = _cubes_of(leaves_of(world, lattice, tile), lattice)
+    cubes, first = {}, middle // half - (1 << depth - 1)
+    for step in itertools.product((-1, 0), repeat=3):
+        cube = 2 * np.array(tile) + step
+        place = cube - first
+        if ((place >= 0) & (place < 1 << depth)).all():
+            cubes[tuple(place.tolist())] = found.get(tuple(cube.tolist()), UNKNOWN)
+    rest = whole(settings.odds.min) if is_walled else UNKNOWN
+    return header(settings.resolution, settings.odds) + joined(cubes, depth, rest)
 
 
 def _shift_of(cubes: Ints, room: int) -> Ints:

@@ -190,10 +190,10 @@ class Tiles:
         what stands for keys are voxels, int64 (n, 3), 0 where nothing stops it.
 
         Both are (n, 3), or one of them (3,), which then stands for all. BadTiles for a way of more
-        than 32,766 - side voxels on an axis.
+        than 65,534 - side voxels on an axis.
         """
         ways = np.broadcast_arrays(_nanometres(origins), _nanometres(ends))
-        asked = casting.Asked(self._lattice, self._entries, self._map, ignore_unknown)
+        asked = casting.Asked(self._settings, self._entries, self._map, ignore_unknown)
         return casting.cast(asked, *ways)
 
     def grid(self, low: npt.ArrayLike, high: npt.ArrayLike) -> npt.NDArray[np.int8]:
