@@ -11,7 +11,7 @@ from driving import content_of, save_drive
 from running import DATA, InFolder, octofix
 
 from octofix import UNKNOWN, BadPoints, CastKind, Map, Rule, VoxelClass, ray, tiles
-from octofix.tiles import parts
+from octofix.tiles import parts, plans
 from octofix.tiles.beams import met, packed, unpacked
 from octofix.tiles.lattice import Lattice
 from octofix.tiles.trees import Leaves, header, joined, node_of
@@ -224,8 +224,10 @@ class Made(InFolder):
                          f"{shift[0] / 10:.10g} {shift[1]} {shift[2]} m\n")
 
     def test_by_an_executor(self):
+        """Of threads, which part a cloud each."""
         words = save_drive()
-        with futures.ThreadPoolExecutor(2) as executor:
+        least = mock.patch.object(plans, "LEAST", 1)
+        with least, futures.ThreadPoolExecutor(4) as executor:
             town = tiles.build("town", words, 0.1, edge=12.8, executor=executor)
         self.same(town, words)
 
@@ -276,7 +278,8 @@ class Store(InFolder):
             self.assertEqual((town.side, town.resolution, town.odds.miss), (16, 0.1, -100))
             self.assertEqual((town.places, town.info()["runs"]), ([], []))
             town.add([([[1, 0, 0]], (0.05, 0.05, 0.05))])
-            self.assertEqual(town.get([[1.05, 0.05, 0.05], [0.5, 0.05, 0.05]]).tolist(), [850, -100])
+            found = town.get([[1.05, 0.05, 0.05], [0.5, 0.05, 0.05]])
+            self.assertEqual(found.tolist(), [850, -100])
         with self.assertRaisesRegex(tiles.BadTiles, "there are tiles already"):
             tiles.create("town", 0.1)
         for edge in (1.5, 0.8, 0.1, 3276.8):

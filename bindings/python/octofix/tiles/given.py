@@ -33,7 +33,7 @@ def begin(folder: str, reach: float | None) -> str:
 
 
 def scans_of(scans: Iterable[tuple[npt.ArrayLike, ...]]) -> Iterator[Scan]:
-    """Scans of points in metres, of the sensor's place, and of its quaternion where it is turned."""
+    """Scans of points in metres, of the sensor's place, and where it is turned its quaternion."""
     for number, (points, origin, *turn) in enumerate(scans):
         pose = Pose.of(origin, *(turn or [(1, 0, 0, 0)]))
         beams = pose.turned(np.asarray(points, float).reshape(-1, 3))

@@ -57,7 +57,7 @@ class Lattice:
         return low, low + self.side - 1
 
     def middles(self, voxels: npt.ArrayLike, tile: npt.ArrayLike = (0, 0, 0)) -> npt.NDArray:
-        """The middles of voxels in metres, in the map of a tile, as the calls of a Map take them."""
+        """The middles of voxels in metres, in the map of a tile."""
         local = np.asarray(voxels, np.int64) - self.shift(tile)
         return (local * self.edge + self.edge // 2) / NANO
 

@@ -3,7 +3,7 @@
 from __future__ import annotations
 
 import itertools
-from typing import Callable, Iterator
+from typing import Callable, Iterator, Optional, Tuple
 
 import numpy as np
 
@@ -17,7 +17,7 @@ from .trees import UNKNOWN, Leaves, header, joined, node_of, whole
 MOST_GROUPS = 1 << 26
 # The bytes of a snapshot that are put together at once. (A snapshot may have 2^30.)
 _PIECE = 1 << 29
-Box = "tuple[Ints, Ints] | None"
+Box = Optional[Tuple[Ints, Ints]]
 
 
 def leaves_of(world: Map, lattice: Lattice, tile: Place) -> Leaves:

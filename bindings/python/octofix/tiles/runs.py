@@ -4,7 +4,7 @@ from __future__ import annotations
 
 from typing import Any
 
-from . import engines, folder as files, steps
+from . import engines, steps
 
 
 def unheard(*_: Any) -> None:

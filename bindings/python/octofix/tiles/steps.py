@@ -5,6 +5,7 @@ from __future__ import annotations
 
 import argparse
 import contextlib
+import copy
 import functools
 import json
 import os
@@ -24,7 +25,7 @@ from octofix.tools.skips import Skips
 from . import folder as files
 from .beams import packed, shares, unpacked
 from .errors import BadTiles
-from .lattice import NANO, Lattice, Place, name_of, tile_of
+from .lattice import NANO, Place, name_of, tile_of
 from .plans import Plan, Settings, expect_unchanged, new_run, opened, planned
 
 _HEAD = struct.Struct("<8sQ")
@@ -120,7 +121,8 @@ def _is_done(folder: str, index: dict[str, Any], plan: Plan, is_again: bool) -> 
         done = record_of(folder, entry)
         if entry is index["runs"][-1] and Plan(**done["plan"]).does_the_same(plan):
             return True
-        had = asked & {(name, *it) for name, it in zip(done["plan"]["names"], done["plan"]["stamps"])}
+        read = zip(done["plan"]["names"], done["plan"]["stamps"])
+        had = asked & {(name, *stamp) for name, stamp in read}
         if had:
             said = "the tiles have this cloud already (--again does the clouds once more)"
             raise BadTiles(said, min(had)[0])
@@ -180,8 +182,10 @@ def _part_some(folder: str, plan: Plan, chunk: int, scans: list[Scan]) -> None:
 
 
 def _scans_of(folder: str, run: str, chunk: int):
-    """The scans of a run as a piece of them needs them, whose first cloud has its number."""
+    """The scans of a run as a piece of them needs them, whose first cloud has its number. (Several
+    threads may have a piece each.)"""
     plan, scans = opened(folder, run)
+    scans = copy.copy(scans)
     scans.clouds = plan.chunks[chunk][0] if scans.is_one_each() else 0
     scans.skips = Skips(plan.options["on_error"] == "skip")
     scans.left, scans.gaps = Left(), 0

@@ -202,15 +202,15 @@ class Tiles:
 
         ValueError where there are more than 2^26 columns.
         """
-        low, high = self._box(low, high)
-        width, depth, _ = (int(it) for it in high - low + 1)
+        first, last = self._box(low, high)
+        width, depth, _ = (int(it) for it in last - first + 1)
         if width * depth > MOST_COLUMNS:
             raise ValueError(f"{width} x {depth} columns are more than 2^26")
         grid = np.full((depth, width), -1, np.int8)
-        for tile in self._in(low, high):
-            one, other = self._cut(tile, low, high)
+        for tile in self._in(first, last):
+            one, other = self._cut(tile, first, last)
             found = self._map(tile).grid(*self._lattice.middles([one, other], tile))
-            (x, y, _), (right, top, _) = one - low, other - low + 1
+            (x, y, _), (right, top, _) = one - first, other - first + 1
             np.maximum(grid[y:top, x:right], found, out=grid[y:top, x:right])
         return grid
 
@@ -312,10 +312,10 @@ class Tiles:
         corners = np.concatenate([_nanometres(low), _nanometres(high)])
         if corners.shape != (2, 3):
             raise ValueError("low and high are a point each")
-        low, high = self._lattice.voxels(corners)
-        if (low > high).any():
+        first, last = self._lattice.voxels(corners)
+        if (first > last).any():
             raise ValueError("low lies beyond high")
-        return low, high
+        return first, last
 
     def _box_or_all(self, low, high) -> tuple[Ints, Ints] | None:
         if (low is None) != (high is None):
@@ -343,8 +343,8 @@ def create(
 ) -> Tiles:
     """Makes tiles of no scan in a folder, which is made where it isn't there: voxels with an edge
     of `res` metres, tiles with one of `edge` metres, which is `res` times a power of two from 16 to
-    16,384 (256 where none is given). `odds` are those of a Map (hit, miss, min, max, threshold), and
-    `max_groups` bounds the map of each tile.
+    16,384 (256 where none is given). `odds` are those of a Map (hit, miss, min, max, threshold),
+    and `max_groups` bounds the map of each tile.
 
     BadTiles where there are tiles already; ValueError for another edge; Refused as by a Map.
     """

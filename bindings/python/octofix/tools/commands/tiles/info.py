@@ -26,7 +26,8 @@ def run(options):
         print(json.dumps(found, indent=2))
         return DONE
     print(f"resolution   {found['resolution']:.10g} m")
-    print(f"tiles        {found['tiles']} of {found['edge']:.10g} m, {found['side']} voxels an edge")
+    edge = f"{found['edge']:.10g} m, {found['side']} voxels an edge"
+    print(f"tiles        {found['tiles']} of {edge}")
     print(f"bytes        {found['bytes']}")
     if found["low"]:
         low, high = (" ".join(f"{it:.10g}" for it in found[end]) for end in ("low", "high"))

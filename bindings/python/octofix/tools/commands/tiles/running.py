@@ -44,7 +44,8 @@ def add_run(parser):
     """The folder, the clouds, and who does the work."""
     add_folder(parser)
     add_scans(parser, is_optional=True)
-    who = parser.add_argument_group("several cores, several machines").add_mutually_exclusive_group()
+    who = parser.add_argument_group("several cores, several machines")
+    who = who.add_mutually_exclusive_group()
     who.add_argument(
         "--jobs", type=whole(0, 256), default=1, metavar="N",
         help="so many processes of this machine; 0 takes as many as there are cores (1)",
