@@ -5,7 +5,6 @@
 """
 
 import base64
-import gzip
 import json
 import re
 import sys
@@ -55,7 +54,9 @@ def make(module):
     words = {
         "VERSION": octofix_build.project()["version"],
         "STYLE": (page.FOLDER / "page.css").read_text() + found("page.css").read_text(),
-        "WASM": base64.b64encode(gzip.compress(module, 9, mtime=0)).decode(),
+        # (not packed, since each zlib packs it otherwise, and a release has the same bytes anywhere)
+        "WASM": base64.b64encode(module).decode(),
+        "PROOF": "" if b"rattle logic=" in module else ", not proved",
         "DESK": octofix + script_of(map(found, WORKER)),
         "COLOURS": json.dumps(colours.ANCHORS.tolist()),
         "BRIGHTNESS": json.dumps(list(oblique.BRIGHTNESS)),

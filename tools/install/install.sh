@@ -4,10 +4,10 @@
 #     tools/install/install.sh HOW PREFIX PROGRAM ARCHIVE VERSION [LAYOUT [MODULE]]
 #
 # HOW is proved or unproved; what isn't proved gets names of its own. ARCHIVE is what the kit made
-# of the library, and VERSION what the installed command answers to --version. LAYOUT is debian
-# where PREFIX is the folder usr of Debian; else, with none or prefix, all finds its files from
-# where it stands. MODULE is the compiled module of the Python package; else it is compiled here, and
-# where it can't be, the package and its tools aren't installed.
+# of the library, beside which octofix.wasm stands, and VERSION what the installed command answers to
+# --version. LAYOUT is debian where PREFIX is the folder usr of Debian; else, with none or prefix, all
+# finds its files from where it stands. MODULE is the compiled module of the Python package; else it
+# is compiled here, and where it can't be, the package and its tools aren't installed.
 
 root=$(dirname -- "$(readlink -f -- "$0")")/../.. && . "$root/tools/install/words.sh" || exit 1
 parts=$root/tools/install
@@ -125,6 +125,21 @@ put_package() {
     put 644 "$root/bindings/cpp/octofix_ot.cpp" share/octofix/octofix_ot.cpp
 }
 
+# The library for browsers and Node, as its package has it.
+put_web() {
+    web=share/octofix$suffix/web
+    put 644 "${archive%/*}/octofix.wasm" "$web/octofix.wasm"
+    put_all "$root/bindings/web" "$web" -path './octofix*'
+    put_filled 644 "$root/bindings/web/package.json" "$web/package.json"
+}
+
+# The page into which maps are dropped.
+put_page() {
+    python=$(python_that_can 'import sys; sys.exit(sys.version_info < (3, 9))')
+    "$python" "$root/bindings/web/make_page.py" "${archive%/*}/octofix.wasm" "$room/page" || exit 1
+    put 644 "$room/page" "$packages/octofix/tools/viewer/viewer$suffix.html"
+}
+
 # The man page and the completions of the tools are made of what these say of their own words.
 put_tool_words() {
     python=$(python_that_can 'import numpy')
@@ -166,6 +181,7 @@ tell() {
     line "lib/pkgconfig/octofix$suffix.pc" "pkg-config --cflags --libs octofix$suffix"
     line "lib/cmake/octofix$suffix" "find_package(octofix$suffix)"
     [ -z "$has_package" ] || tell_of_package
+    line "share/octofix$suffix/web" 'the library for browsers and Node'
     line 'share/man, share/doc/octofix' 'man pages, and documents'
     line 'share/bash-completion, share/zsh' 'completions of all words'
     case :$PATH: in
@@ -176,10 +192,12 @@ tell() {
 
 put_program
 put_library
+put_web
 has_package=
 if compile_module; then
     has_package=yes
     put_package
+    put_page
     put_tool_words
 else
     say "the Python package and its tools aren't installed: ${why#octofix: }"

@@ -1,10 +1,11 @@
 #!/usr/bin/env python3
-"""Makes a release of what is built: a tarball, a wheel and Debian packages, with PROVENANCE.txt and
-SHA256SUMS.
+"""Makes a release of what is built: a tarball, a wheel, Debian packages, an npm package and a page,
+with PROVENANCE.txt and SHA256SUMS.
 
     tools/release/make.py [--unproved] [--dirty] FOLDER [PROGRAM ARCHIVE VERSION]
 
-FOLDER is a new or an empty one. PROGRAM and ARCHIVE are what the kit built, and VERSION what the
+FOLDER is a new or an empty one. PROGRAM and ARCHIVE are what the kit built, ARCHIVE with
+octofix.wasm beside it, and VERSION what the
 installed command answers to --version; without them nothing is made, and it is said whether a
 release could be. All bytes depend on the commit and on those two files, and on neither folder,
 user, umask nor hour; SOURCE_DATE_EPOCH is taken in place of the commit's time. What isn't proved,
@@ -33,6 +34,7 @@ sys.path.insert(0, str(ROOT / "bindings/python"))
 import debian  # noqa: E402
 import octofix_compile  # noqa: E402
 import tarball  # noqa: E402
+import web  # noqa: E402
 import wheel  # noqa: E402
 from release import Release, Sources, Unfit, check_folder, check_tools, run  # noqa: E402
 
@@ -54,7 +56,7 @@ def make(sources, options, room):
     release = Release(sources, options.program, module, prefix, options.unproved)
     try:
         names = [tarball.make(release, prefix, made), wheel.make(release, prefix, made)]
-        names += debian.make(release, layout, made)
+        names += debian.make(release, layout, made) + web.make(release, prefix, made)
     except debian.Unplaced as name:
         raise Unfit(f"tools/release/debian.py says of no package that it has {name}") from None
     (made / "PROVENANCE.txt").write_text(release.provenance)

@@ -3,7 +3,10 @@
 import hashlib
 
 # The files that the kit builds, below a prefix.
-BUILT = ("libexec/octomap/octomap", "lib/liboctofix.so.1", "lib/liboctofix.a")
+BUILT = (
+    "libexec/octomap/octomap", "lib/liboctofix.so.1", "lib/liboctofix.a",
+    "share/octofix/web/octofix.wasm",
+)  # fmt: skip
 HEAD = """\
 octofix {version}: where these bytes come from, and what is proved of them
 
@@ -48,7 +51,8 @@ The proofs leave out, and tests alone look at: what joins the program to real fi
 headers for C and C++, the Python package with its tools, that several threads may ask a map at
 once, and that there is memory enough. Trusted are the kit with its prover and compilers, LLVM, the
 linker, the C code of the kit that calls the system and the heap (libos_c.a, liblibc_c.a), and the C
-library.
+library. octofix.wasm is the proved library's own module, compiled for wasm64: trusted is besides
+that LLVM does so rightly, with octofix's own heap (host.c), and tests compare it with the library.
 
 The license of octofix is MIT (LICENSE). Program and library have code of the kit in them, of its
 std and of that C code, with which no license comes.

@@ -1,6 +1,6 @@
 // The page: files are dropped or chosen, opened in the worker, and shown.
 
-import {OCCUPIED, ORIGIN, Tree, UNKNOWN, unpacked} from "./tree.js";
+import {ORIGIN, Tree, bytesOf} from "./tree.js";
 import {element} from "./panel.js";
 import {Caller} from "../octofix-calls.mjs";
 import {Inspector, count, volume} from "./inspector.js";
@@ -29,7 +29,7 @@ class Page {
     worker.addEventListener("error", it => this.failed(it.message || "it ran out of memory"));
     const memory = navigator.deviceMemory ? navigator.deviceMemory * GIGABYTE / 2 : undefined;
     try {
-      await this.desk.call("load", await unpacked(element("wasm").textContent), memory);
+      await this.desk.call("load", bytesOf(element("wasm").textContent), memory);
     } catch (why) {
       this.say(`This browser can't run the library: ${why.message}.`);
     }

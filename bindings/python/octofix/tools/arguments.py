@@ -263,10 +263,11 @@ def add_origin(parser):
     )  # fmt: skip
 
 
-def add_map(parser, name="map"):
+def add_map(parser, name="map", is_required=True):
     parser.add_argument(
-        name, type=Input, metavar=name.upper(), help="a .bt file or a snapshot; - is the input"
-    )
+        name, type=Input, metavar=name.upper(), help="a .bt file or a snapshot; - is the input",
+        nargs=None if is_required else "?",
+    )  # fmt: skip
 
 
 def add_output(parser, said="- is the output", is_required=True, of=Output):

@@ -2,13 +2,16 @@
 
     octofix view map.bt -o map.html                     a page, with the map in it
     octofix view map.bt --open                          the same, shown at once
+    octofix view -o viewer.html                         a page into which maps are dropped
     octofix view map.bt -o above.png                    from above, coloured by height
     octofix view map.bt --oblique -o corner.png         from a corner
     octofix view map.bt --slice 0.5 -o slice.png        one layer of voxels
     octofix view map.bt --slice 0.5 --text              the same as text: # occupied, . free
 
 In the page the map is turned by mouse, fingers or keys, and cut from above and below; a click tells
-what stands there, of a snapshot with its value. It needs no network.
+what stands there, of a snapshot with its value. It needs no network. The page without a map has the
+library in it: it opens files, measures, compares two maps and saves them, and they stay on the
+machine.
 """
 
 import argparse
@@ -29,7 +32,7 @@ from ..files import write
 from ..leaves import OCCUPIED, VOXELS, values_of_parts
 from ..maps import read_leaves, read_placed
 from ..morton import decode
-from ..page import MOST_LEAVES, fewer, page
+from ..page import FOLDER, MOST_LEAVES, fewer, page
 from ..pictures import MOST_PIXELS, write_picture
 from ..progress import say
 from ..surveys import the_one
@@ -39,6 +42,8 @@ HELP = "a page for a browser, or a picture: from above, from a corner, a slice"
 MOST_VOXELS = 1 << 22
 SIGNS = np.array([" ", ".", "#"])
 PAGES = (".html", ".htm")
+# The page into which maps are dropped: with the proved library in it, where that is installed.
+EMPTY_PAGES = "viewer.html", "viewer-unproved.html"
 
 
 def elevation(word):
@@ -48,7 +53,7 @@ def elevation(word):
 
 
 def arguments(parser):
-    add_map(parser)
+    add_map(parser, is_required=False)
     add_box(parser)
     how = parser.add_mutually_exclusive_group()
     how.add_argument("--oblique", action="store_true", help="from a corner")
@@ -77,6 +82,8 @@ def run(options):
     if options.open or options.output and options.output.lower().endswith(PAGES):
         _page(options)
         return DONE
+    if options.map is None:
+        raise Unusable("which map? (without one there is a page, -o FILE.html or --open)")
     if options.output and not options.output.lower().endswith(".png"):
         raise Unusable("a page's name ends in .html, that of a picture in .png", options.output)
     leaves = read_leaves(options.map)
@@ -123,6 +130,8 @@ def _write_for_the_browser(content):
 
 
 def _page_of(options):
+    if options.map is None:
+        return _page_for_any_map(options)
     leaves, values, said = read_placed(options.map)
     origin = the_one(said, options.origin, options.map)
     if options.box:
@@ -138,6 +147,16 @@ def _page_of(options):
         say(f"blocks of depth {depth} are shown: there are more than {MOST_LEAVES} leaves")
     name = "map" if options.map == "-" else os.path.basename(options.map)
     return page(leaves, name, values, origin)
+
+
+def _page_for_any_map(options):
+    """The page into which maps are dropped, which an install has beside its tools."""
+    if options.box:
+        raise Unusable("--box is for a map, and none is given")
+    for name in EMPTY_PAGES:
+        with contextlib.suppress(FileNotFoundError):
+            return (FOLDER / name).read_bytes()
+    raise Unusable("this install has no page for any map; a release has one")
 
 
 def _slice(leaves, options):

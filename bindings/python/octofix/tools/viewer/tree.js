@@ -77,9 +77,10 @@ export async function readTree(packedWords, packedValues) {
   return new Tree(nodes, endsOf(nodes), values);
 }
 
-export async function unpacked(text) {
-  const packed = Uint8Array.from(atob(text), it => it.charCodeAt(0));
-  const stream = new Blob([packed]).stream().pipeThrough(new DecompressionStream("gzip"));
+export const bytesOf = text => Uint8Array.from(atob(text), it => it.charCodeAt(0));
+
+async function unpacked(text) {
+  const stream = new Blob([bytesOf(text)]).stream().pipeThrough(new DecompressionStream("gzip"));
   return new Uint8Array(await new Response(stream).arrayBuffer());
 }
 
