@@ -181,6 +181,26 @@ class Text(InFolder):
         self.assertEqual(files, {it.name for it in page.FOLDER.iterdir()})
 
 
+class WithoutAMap(InFolder):
+    """The page into which maps are dropped, which an install has."""
+
+    def test_the_proved_one_comes_first(self):
+        with mock.patch(f"{VIEW}.FOLDER", Path(os.getcwd())):
+            said = "this install has no page for any map; a release has one"
+            self.refused(said, "view", "-o", "a.html")
+            for name in ("viewer-unproved.html", "viewer.html"):
+                Path(name).write_text(name)
+                self.done("view", "-o", "a.html")
+                self.assertEqual(Path("a.html").read_text(), name)
+
+    def test_words_for_a_map(self):
+        said = "which map? (without one there is a page, -o FILE.html or --open)"
+        for words in (["-o", "a.png"], ["--slice", "1", "--text"], ["--oblique", "-o", "a.png"]):
+            self.refused(said, "view", *words)
+        said = "--box is for a map, and none is given"
+        self.refused(said, "view", "-o", "a.html", "--box", *"000111")
+
+
 class Open(InFolder):
     def setUp(self):
         super().setUp()
