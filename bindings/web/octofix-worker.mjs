@@ -18,9 +18,9 @@ const PROPERTIES = [
 ];
 const CALLS = [
   "scan", "scanFrom", "edit", "editBox", "limit", "noLimit", "refresh", "prune", "clear",
-  "maxLikelihood", "merge", "counts", "leastTree", "get", "classes", "probabilities", "cast", "list",
-  "leaves", "voxels", "centers", "bounds", "extent", "grid", "track", "untrack", "changes", "toBt",
-  "toSnapshot", "loadBt", "loadSnapshot",
+  "maxLikelihood", "merge", "counts", "leastTree", "get", "classes", "probabilities", "cast",
+  "list", "leaves", "voxels", "centers", "bounds", "extent", "grid", "track", "untrack", "changes",
+  "toBt", "toSnapshot", "loadBt", "loadSnapshot",
 ];
 
 // -- the worker's side

@@ -59,7 +59,7 @@ export class Stopped extends Error {
   constructor(cause?: unknown);
 }
 
-/** Blocks of a map, as many as `length`: of each its depth (16 is a voxel), three indices, value. */
+/** Blocks of a map: of each its depth (16 is a voxel), three indices, and value. */
 export class Blocks {
   constructor(depth: Uint8Array, index: Uint16Array, value: Int32Array, resolutionNm: number);
   readonly depth: Uint8Array;

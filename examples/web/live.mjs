@@ -32,7 +32,8 @@ export class Follower {
     const box = this.map.extent();
     if (!box) return;
     const [low, high] = [box.low.map(it => it + 1e-6), box.high.map(it => it - 1e-6)];
-    const {cells, rows, columns} = this.map.grid(low, high), colours = new Uint32Array(cells.length);
+    const {cells, rows, columns} = this.map.grid(low, high);
+    const colours = new Uint32Array(cells.length);
     for (let at = 0; at < cells.length; at++) {
       const row = rows - 1 - Math.floor(at / columns), place = row * columns + at % columns;
       colours[place] = {100: 0xff282828, 0: 0xffffffff, "-1": 0xffc8c8c8}[cells[at]];

@@ -23,7 +23,7 @@ HERE = Path(__file__).resolve().parent
 WEB = HERE.parents[1] / "bindings/web"
 RESOLUTION, MOST_PAGES, PAUSE = 0.1, 8, 0.2
 FILES = {"/": HERE / "live.html", "/live.mjs": HERE / "live.mjs"}
-TYPES = {".html": "text/html; charset=utf-8", ".mjs": "text/javascript", ".wasm": "application/wasm"}
+TYPES = {".html": "text/html", ".mjs": "text/javascript", ".wasm": "application/wasm"}
 
 
 def clouds(rounds):

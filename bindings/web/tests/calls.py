@@ -75,7 +75,8 @@ class Calls:
             if self.chance(0.5):
                 self.ask("track", [], self.world.track)
             for _ in range(int(self.draw.integers(1, 6))):
-                self.draw.choice([self.scan, self.scan_from, self.edit, self.edit_box, self.limit])()
+                edits = [self.scan, self.scan_from, self.edit, self.edit_box, self.limit]
+                self.draw.choice(edits)()
             self.ask_points()
             self.ask_lists()
             self.ask_whole()
@@ -196,8 +197,8 @@ def boxed(box):
 
 
 def listed(blocks):
-    parts = blocks.depth, blocks.index, blocks.value, blocks.lows(), blocks.centers(), blocks.sizes()
-    return sum_of(*parts)
+    places = blocks.lows(), blocks.centers(), blocks.sizes()
+    return sum_of(blocks.depth, blocks.index, blocks.value, *places)
 
 
 def gridded(cells):

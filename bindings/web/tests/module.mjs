@@ -1,5 +1,5 @@
-// Tests of octofix.mjs that random calls don't make: memory, ends of maps, and the worker. Each is a
-// function that throws where something isn't as it should be.
+// Tests of octofix.mjs that random calls don't make: memory, ends of maps, and the worker. Each is
+// a function that throws where something isn't as it should be.
 
 import {load, isSnapshot, Blocks, Closed, OutOfMemory, Refused, Stopped} from "../octofix.mjs";
 import {start} from "../octofix-worker.mjs";

@@ -85,8 +85,9 @@ class Page(unittest.TestCase):
         return dict(self.window.js(f"{rows}.map(it => it.map(cell => cell.textContent))"))
 
     def choose(self, select, value):
-        self.window.js(f"""(() => {{ const it = document.getElementById("{select}");
-            it.value = {value!r}; it.dispatchEvent(new Event("change", {{bubbles: true}})); }})()""")
+        self.window.run(f"""const it = document.getElementById("{select}");
+            it.value = {value!r};
+            it.dispatchEvent(new Event("change", {{bubbles: true}}));""")
 
     def told(self, *clicks):
         """What is told after clicks."""
@@ -111,6 +112,7 @@ class Page(unittest.TestCase):
         self.start()
         self.assertEqual(self.said("fault"), "")
         self.drop("one.snap")
+        self.window.until("!document.getElementById('facts').textContent.includes('counted')")
         world, facts = self.worlds["one"], self.facts()
         for kind in ("occupied", "free"):
             many = len(world.voxels(kind))
@@ -146,7 +148,7 @@ class Page(unittest.TestCase):
         self.assertTrue(self.told(self.pixel_of(key)).startswith("free at -0.55 0.55 0.25 m"))
 
     def test_two_clicks(self):
-        """How far two voxels lie from each other, what is between them, and what is in their box."""
+        """How far two voxels are apart, what is between them, and what is in their box."""
         self.start()
         self.drop("one.snap")
         world = self.worlds["one"]

@@ -99,8 +99,8 @@ class Desk {
     };
   }
 
-  // The occupied voxel that stops a way first, from place to place in keys with parts; before it the
-  // first voxel, where that is free and `isCut`, as a cut shows it.
+  // The occupied voxel that stops a way first, from place to place in keys with parts; before it
+  // the first voxel, where that is free and `isCut`, as a cut shows it.
   seen(number, from, to, isCut) {
     const {map} = this.of(number);
     if (isCut) {

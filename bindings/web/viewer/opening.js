@@ -58,13 +58,24 @@ class Page {
 
   // Opens files, one after another, and shows the last one that could be opened.
   take(files) {
-    for (const file of files)
-      this.queue = this.queue.then(() => this.open(file));
-    return this.queue;
+    for (const file of files) this.next(() => this.open(file));
+  }
+
+  // Does something once what was asked before is done, with the bar; `said` begins what is said
+  // where it fails.
+  next(work, said) {
+    this.queue = this.queue.then(async () => {
+      this.progress(undefined);
+      try {
+        await work();
+      } catch (why) {
+        this.say(`${said}: ${why.message}.`);
+      }
+      this.progress(1);
+    });
   }
 
   async open(file) {
-    this.progress(undefined);
     try {
       if (file.size > MOST_BYTES)
         throw new Error(`it has ${count(file.size)} bytes, and a map has at most 2^30`);
@@ -75,8 +86,6 @@ class Page {
       await this.show(this.maps.at(-1));
     } catch (why) {
       this.say(`${file.name} can't be opened: ${why.message}.`);
-    } finally {
-      this.progress(1);
     }
   }
 
@@ -88,16 +97,21 @@ class Page {
 
   // Shows a map in place of what is shown.
   async show(map) {
-    const began = performance.now();
     const {nodes, ends} = await this.desk.call("occupiedTree", map.number);
     this.leave();
     this.draw(aboutOf([map]), new Tree(nodes, ends), map.number, [map]);
     this.tellFacts(map);
-    await window.viewer.supply.done();
-    map.drawn = performance.now() - began;
-    window.viewer?.weigh();
+    this.finish(map, window.viewer).catch(why =>
+      this.say(`${map.name} can't be counted: ${why.message}.`));
+  }
+
+  // Once all is drawn: how long that takes, and what takes a look at all that is free.
+  async finish(map, viewer) {
+    await viewer.supply.done();
+    if (viewer !== window.viewer) return;
+    viewer.weigh();
     map.free ??= await this.desk.call("free", map.number);
-    this.tellFacts(map);
+    if (viewer === window.viewer) this.tellFacts(map);
   }
 
   draw(about, tree, number, maps) {
@@ -112,21 +126,13 @@ class Page {
 
   // Shows a map and another one side by side.
   async compare(first, second) {
-    this.progress(undefined);
-    try {
-      const {table, numbers} = await this.desk.call("compare", first.number, second.number);
-      const {nodes, ends} = await this.desk.call("occupiedTree", numbers.both);
-      this.leave();
-      this.draw(aboutOf([first, second]), new Tree(nodes, ends), numbers.both, [first, second]);
-      for (const [name, colour] of Object.entries(APART))
-        window.viewer.painter.drawApart(
-          new RemoteSupply(this.desk, numbers[name], () => {}), colour);
-      this.tellTable(table, first);
-    } catch (why) {
-      this.say(`${first.name} and ${second.name} can't be compared: ${why.message}.`);
-    } finally {
-      this.progress(1);
-    }
+    const {table, numbers} = await this.desk.call("compare", first.number, second.number);
+    const {nodes, ends} = await this.desk.call("occupiedTree", numbers.both);
+    this.leave();
+    this.draw(aboutOf([first, second]), new Tree(nodes, ends), numbers.both, [first, second]);
+    for (const [name, colour] of Object.entries(APART))
+      window.viewer.painter.drawApart(new RemoteSupply(this.desk, numbers[name], () => {}), colour);
+    this.tellTable(table, first);
   }
 
   listMaps([shown, other]) {
@@ -141,9 +147,14 @@ class Page {
 
   listen([shown, other]) {
     const chosen = id => this.maps[Number(element(id).value)];
-    element("maps").onchange = () => this.show(chosen("maps"));
-    element("other").onchange = () =>
-      chosen("other") ? this.compare(shown, chosen("other")) : this.show(shown);
+    const show = map => this.next(() => this.show(map), `${map.name} can't be shown`);
+    element("maps").onchange = () => show(chosen("maps"));
+    element("other").onchange = () => {
+      const beside = chosen("other");
+      if (!beside) return show(shown);
+      return this.next(() => this.compare(shown, beside),
+        `${shown.name} and ${beside.name} can't be compared`);
+    };
     for (const form in FORMS)
       element(form).onclick = () => this.save(shown, form);
     element("grid").onclick = () => this.saveGrid(shown);
@@ -166,7 +177,6 @@ class Page {
   }
 
   tellFacts(map) {
-    if (!element("title").textContent.startsWith(map.name)) return;
     const {resolution} = map, voxels = number => number === undefined ? "is counted"
       : `${volume(number, resolution)} (${count(number)} voxels)`;
     const size = map.known?.high.map((it, n) => (it - map.known.low[n] + 1) * resolution);

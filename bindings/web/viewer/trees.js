@@ -41,11 +41,12 @@ class TreeMaker {
     Object.assign(this, {depth, index, classAt, nodes: new Growing(), groups: 1});
   }
 
-  // Makes the groups of a level, of blocks from one place up to another each, and answers the ranges
-  // of the next.
+  // Makes the groups of a level, of blocks from one place up to another each, and answers the
+  // ranges of the next.
   level(ranges, level) {
     const deeper = new Growing();
-    for (let at = 0; at < ranges.length; at += 2) this.group(ranges[at], ranges[at + 1], level, deeper);
+    for (let at = 0; at < ranges.length; at += 2)
+      this.group(ranges[at], ranges[at + 1], level, deeper);
     return deeper.all;
   }
 
@@ -87,7 +88,8 @@ export function overlay(first, second) {
   const trees = found.blocks.map(({depth, index}) =>
     treeOf({depth: depth.all, index: index.all}, () => OCCUPIED));
   found.table[UNKNOWN][UNKNOWN] = 0;
-  return {table: found.table, trees: Object.fromEntries(SIDES_OF_TWO.map((it, n) => [it, trees[n]]))};
+  const named = Object.fromEntries(SIDES_OF_TWO.map((it, n) => [it, trees[n]]));
+  return {table: found.table, trees: named};
 }
 
 class Overlay {

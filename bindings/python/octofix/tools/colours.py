@@ -2,10 +2,10 @@
 
 import numpy as np
 
+from . import looks
 from .leaves import FREE, OCCUPIED, UNKNOWN
 
-# From low to high: violet, blue, green, yellow.
-ANCHORS = np.array([(68, 1, 84), (59, 82, 139), (33, 145, 140), (94, 201, 98), (253, 231, 37)])
+ANCHORS = np.array(looks.ANCHORS)
 BY_CLASS = {UNKNOWN: (200, 200, 200), FREE: (255, 255, 255), OCCUPIED: (40, 40, 40)}
 BACKGROUND = (255, 255, 255)
 SEEN = (232, 236, 240)

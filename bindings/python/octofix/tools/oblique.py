@@ -6,10 +6,10 @@ from math import ceil, cos, radians, sin, sqrt
 import numpy as np
 
 from . import colours
+from .looks import BRIGHTNESS
 from .pictures import MOST_PIXELS
 
-# How bright the faces are that look up, along x and along y, and these axes.
-BRIGHTNESS = (1.0, 0.62, 0.8)
+# The axes along which faces look that are so bright.
 AXES = (2, 0, 1)
 # Points that are painted at once.
 PIECE = 1 << 20

@@ -13,7 +13,7 @@ from pathlib import Path
 
 import numpy as np
 
-from . import colours, oblique
+from . import looks
 from .bundle import script_of
 from .leaves import FREE, OCCUPIED, ORIGIN, VOXELS, greatest_values
 from .lengths import NANO, metres
@@ -95,8 +95,8 @@ def _about(leaves, origin):
         "occupied": [int(it[2]) for it in occupied],
         "nanometres": int(leaves.resolution),
         "origin": origin and [it / NANO for it in origin],
-        "colours": colours.ANCHORS.tolist(),
-        "brightness": list(oblique.BRIGHTNESS),
+        "colours": looks.ANCHORS,
+        "brightness": looks.BRIGHTNESS,
     }
 
 

@@ -36,8 +36,8 @@ export function findFaces(tree, kind, behind, places = placesOf(tree, 1)) {
   return finder.faces;
 }
 
-// The places of a tree at a depth that has at least so many, or its last one: of each its group, its
-// part, its edge and its lowest corner. Together they hold all.
+// The places of a tree at a depth that has at least so many, or its last one: of each its group,
+// its part, its edge and its lowest corner. Together they hold all.
 export function placesOf(tree, least) {
   const parts = (group, size, x, y, z) => [0, 1, 2, 3, 4, 5, 6, 7].map(it => [
     group, it, size, it & 1 ? x + size : x, it & 2 ? y + size : y, it & 4 ? z + size : z]);

@@ -13,7 +13,7 @@ export class Supply {
     take(findFaces(this.tree, kind, behind));
   }
 
-  // Has a list of a class's blocks at each of these heights taken, an empty one where there is none.
+  // Has a list of a class's blocks at each of these heights taken, an empty one where it is none.
   layers(kind, heights, take) {
     take(heights.map(it => it === undefined ? new Squares() : layerOf(this.tree, kind, it)));
   }
