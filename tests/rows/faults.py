@@ -289,6 +289,10 @@ SNAPSHOTS = [
         "get 0 0 0 16 ; add 0 0 0 -1000 ; get 0 0 0 16",
         "restored groups 0 / ok / known 7 occupied / ok / known 2 free / ok / known 70 occupied / "
         "ok / known -60 free", files={"s": snap2(b"\0", (7, -5, -60, 70, 3))}),
+    Row("A load goes by the log-odds in force, here of a snapshot, and leaves them", "session 0.1",
+        "restore s ; load m ; get 0 0 0 16 ; hit 1 1 1 ; get 1 1 1 16 ; miss 0 0 0 ; get 0 0 0 16",
+        "restored groups 0 / loaded 17 / known 70 occupied / ok / known 7 occupied / ok / "
+        "known 65 occupied", files={"s": snap2(b"\0", (7, -5, -60, 70, 3)), "m": VOXEL_FILE}),
     Row("A snapshot without a box takes a standing box away, and one of version 1 doesn't",
         "session 0.1",
         "limit 0 0 0 0 0 0 ; restore one ; scan 0 0 0 1 0 0 0 all ; p 0.5 0 0 ; end ; "

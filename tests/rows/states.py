@@ -44,6 +44,18 @@ STALENESS = [
             "block 32768 32768 32768 850 occupied / end 1", n=VOXEL_FILE),
 ]
 
+THRESHOLD = [
+    session("From the threshold on a voxel is occupied, and maxlik makes it as sure as can be",
+            "set 0 0 0 5 ; get 0 0 0 16 ; set 1 0 0 4 ; get 1 0 0 16 ; maxlik ; get 0 0 0 16 ; "
+            "get 1 0 0 16",
+            "ok / known 5 occupied / ok / known 4 free / ok / known 3500 occupied / "
+            "known -2000 free", "--thr 5"),
+    session("A voxel at the threshold stops a cast and counts as new since the mark",
+            "track ; set 0.2 0 0 5 ; cast 0 0 0 1 0 0 ignore ; changes ; list 0.2 0 0 0.2 0 0 16",
+            "ok / ok / cast hit 32770 32768 32768 / new 32770 32768 32768 / end 1 / "
+            "block 32770 32768 32768 5 occupied / end 1", "--thr 5"),
+]
+
 MARKS = [
     session("Untrack, clear, load and restore take the mark away",
             f"track ; {line} ; changes", f"ok / {answer} / refused 28 NotTracked")
@@ -150,4 +162,4 @@ SPACE = [
         "p -3.317 -4.784 3.351 / end / quit"),
 ]
 
-ROWS = STALENESS + MARKS + WINDOWS + SPACE
+ROWS = STALENESS + THRESHOLD + MARKS + WINDOWS + SPACE
