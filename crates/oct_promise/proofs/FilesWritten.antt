@@ -13,7 +13,7 @@ use Rattle.oct_session.specs.Session.{Progress, Effect, effect, effect_of, progr
 use Rattle.oct_session.specs.Setup.{Setup}
 use Rattle.oct_session.proofs.Progresses.{progress_push, after_answered}
 use Rattle.oct_promise.specs.GivenBack.{WritesFile}
-use Rattle.oct_promise.specs.Promise.{IsLine, state_behind}
+use Rattle.oct_promise.specs.Lines.{IsLine, state_behind}
 use Rattle.oct_promise.proofs.GivenBack.{effect_next}
 use Rattle.oct_promise.proofs.Telling.{next_line, line_replied}
 

@@ -36,10 +36,10 @@ use Rattle.oct_values.proofs.Uniform.{same_group_count}
 use Rattle.oct_session.specs.Commands.{Saving, accepted, stored}
 use Rattle.oct_session.specs.FileCommands.{found_in, snapshot_file, restore_reply, restore_action}
 use Rattle.oct_session.specs.FileCommands.{snapshot_action, groups_reply}
-use Rattle.oct_promise.specs.Promise.{IsGivenBack}
-use Rattle.oct_promise.specs.States.{IsState, IsSetUp}
 use Rattle.oct_promise.specs.GivenBack.{name_written, NoneWrites, AreSnapshotAndRestore, GivesBack}
 use Rattle.oct_promise.specs.GivenBack.{TwoLines, up_to_second, AreKeptApart}
+use Rattle.oct_promise.specs.Promise.{IsGivenBack}
+use Rattle.oct_promise.specs.States.{IsState, IsSetUp}
 use Rattle.oct_session.specs.History.{State, Restored, value_event, after, after_all, state_after}
 use Rattle.oct_session.specs.History.{value_after}
 use Rattle.oct_session.specs.Session.{Progress, Effect, effect, effect_of, next_command, answered}
@@ -195,6 +195,7 @@ state_back s t q is back = record {
   odds = back.odds;
   update_box = ap (λ n. cond {A = Option Window} (nat_eq n 1) t.base.update_box q.head.window)
       back.version ∙ back.window;
+  beside = (refl, refl);
 }
 
 -- ---- the restore

@@ -35,7 +35,8 @@ use Rattle.oct_session.specs.Commands.{accepted, stored}
 use Rattle.oct_session.specs.FileCommands.{found_in, classes_file, load_reply, load_action}
 use Rattle.oct_session.specs.FileCommands.{reading_reply, reading_action, nodes_reply}
 use Rattle.oct_promise.specs.GivenBack.{TwoLines, up_to_second, AreSaveAndLoad, LoadsBack}
-use Rattle.oct_promise.specs.Promise.{classes_in, IsLoadedBack}
+use Rattle.oct_promise.specs.Lines.{classes_in}
+use Rattle.oct_promise.specs.Promise.{IsLoaded}
 use Rattle.oct_promise.specs.States.{IsSetUp}
 use Rattle.oct_session.specs.History.{State, Replaced, class_event, after, after_all, state_after}
 use Rattle.oct_session.specs.History.{value_after}
@@ -79,7 +80,7 @@ value_back : (o : Odds) → IsSound o → (c : Class) (was : Value)
 value_back o sound c was = replaced_by o c was (value_for o c) refl (bound_within o sound c)
 
 -- canonical data gives the voxels the classes whose data it is
-data_back : (classes : Classes) (k : Voxel) → IsInMap k
+pub data_back : (classes : Classes) (k : Voxel) → IsInMap k
     → data_classes (canonical_data classes) k ≡ classes k
 data_back classes = one_meaning (data_classes (canonical_data classes)) classes
     (canonical_data classes)
@@ -155,23 +156,26 @@ loads files s t line number name found read answer = all
           ∙ action_is;
     }
 
--- and the state after it has the classes of the other one
-state_back : (s t : State) → IsSound t.base.odds
-    → IsLoadedBack s (after t (Replaced (data_classes (canonical_data (classes_in s)))))
-state_back s t sound = record {
-  classes = λ k low. ap (class_of t.base.odds) (value_is k low)
-      ∙ class_back t.base.odds sound (classes_in s k);
-  values = value_is;
+-- the state after the load of these classes
+pub classes_loaded : (t : State) (c : Classes) → IsSound t.base.odds
+    → IsLoaded c t (after t (Replaced c))
+classes_loaded t c sound = record {
+  classes = λ k low. ap (class_of t.base.odds) (value_back t.base.odds sound (c k) (t.values k))
+      ∙ class_back t.base.odds sound (c k);
+  values = λ k low. value_back t.base.odds sound (c k) (t.values k);
+  beside = (refl, refl, refl);
 }
-  where
-    value_is : (k : Voxel) → IsInMap k
-        → after_event t.base.odds
-        (Some (class_event t.base.odds (data_classes (canonical_data (classes_in s)) k)))
-        (t.values k) ≡ value_for t.base.odds (classes_in s k)
-    value_is k low =
-        ap (λ (c : Class). after_event t.base.odds (Some (class_event t.base.odds c)) (t.values k))
-        (data_back (classes_in s) k low)
-        ∙ value_back t.base.odds sound (classes_in s k) (t.values k)
+
+-- it has the classes of the other one
+state_back : (s t : State) → IsSound t.base.odds
+    → IsLoaded (classes_in s) t (after t (Replaced (data_classes (canonical_data (classes_in s)))))
+state_back s t sound =
+    let back = data_back (classes_in s) in
+    let done = classes_loaded t (data_classes (canonical_data (classes_in s))) sound in record {
+      classes = λ k low. done.classes k low ∙ back k low;
+      values = λ k low. done.values k low ∙ ap (value_for t.base.odds) (back k low);
+      beside = done.beside;
+    }
 
 loaded_back : (o : Setup) (p r : Progress) (line : Line) (name : List ℕ) → IsSetUp o → IsLimited o
     → IsSound (state_after o r.history).base.odds
@@ -179,7 +183,7 @@ loaded_back : (o : Setup) (p r : Progress) (line : Line) (name : List ℕ) → I
     file_in r.files name ≡ Some (classes_file (state_after o p.history))
     → IsNext r line (command.Load name) →
     Does o r line (reply_of.Loaded (canonical_size (classes_in (state_after o p.history))))
-    (IsLoadedBack (state_after o p.history))
+    (IsLoaded (classes_in (state_after o p.history)) (state_after o r.history))
 loaded_back o p r line name set limited sound few there next =
     let s : State = state_after o p.history in
     let t : State = state_after o r.history in
@@ -206,7 +210,7 @@ loaded_back o p r line name set limited sound few there next =
     ∙ ap (after_all t) added in
     record {
       answer = replied;
-      state = subst (IsLoadedBack s) (sym ends) (state_back s t sound);
+      state = subst (IsLoaded (classes_in s) t) (sym ends) (state_back s t sound);
     }
 
 -- the law
@@ -228,5 +232,5 @@ load_gives_back o set limited files bytes name t given =
     let done = told_and_left o (Some files) bytes (up_to_second t) t.second None
     (Ok (command.Load name))
     (reply_of.Loaded (canonical_size (classes_in (state_after o p.history))))
-    (IsLoadedBack (state_after o p.history)) given.reads does in
+    (IsLoaded (classes_in (state_after o p.history)) (state_after o r.history)) given.reads does in
     record { told = done.0; left = done.1 }

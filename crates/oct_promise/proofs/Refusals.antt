@@ -1,6 +1,6 @@
 -- That a line which is refused changes nothing.
-use Rattle.std.proofs.Common.{◌≡◌, ℕ, ◌+◌, List, [], ◌∷◌, ◌++◌, true, false, cond, Option, Some, None}
-use Rattle.std.proofs.Common.{Result, refl, ap, ◌∙◌, append-nil}
+use Rattle.std.proofs.Common.{◌≡◌, ℕ, ◌+◌, List, [], ◌∷◌, ◌++◌, true, false, cond, Option, Some}
+use Rattle.std.proofs.Common.{None, Result, refl, ap, ◌∙◌, append-nil}
 use Rattle.oct_io.specs.Files.{Files}
 use Rattle.oct_script.specs.Lines.{Line}
 use Rattle.oct_script.specs.declared.command.Command.{Command}
@@ -16,7 +16,7 @@ use Rattle.oct_session.specs.Session.{silent, next_command, progress}
 use Rattle.oct_session.specs.Setup.{Setup}
 use Rattle.oct_session.specs.declared.scan_block.ScanBlock.{ScanBlock}
 use Rattle.oct_session.proofs.Progresses.{progress_push, after_answered}
-use Rattle.oct_promise.specs.Promise.{IsLine, Replies, state_behind}
+use Rattle.oct_promise.specs.Lines.{IsLine, Replies, state_behind}
 use Rattle.oct_promise.proofs.Telling.{line_replied}
 
 -- where its reply is a refusal, it does nothing

@@ -1,6 +1,7 @@
 -- That the files of classes are equal where the classes are, and that no other one is shorter.
-use Rattle.std.proofs.Common.{◌≡◌, ◌≤◌, ◌↔◌, ℕ, List, [], ◌++◌, length, Option, Result, Ok, Err, sym, ap}
-use Rattle.std.proofs.Common.{subst, ◌∙◌}
+use Rattle.std.proofs.Common.{◌≡◌, ◌≤◌, ◌↔◌, ℕ, List, [], ◌++◌, length, Option, Result, Ok, Err}
+use Rattle.std.proofs.Common.{sym, ap, subst, ◌∙◌, arith, true}
+use Rattle.oct_arena.specs.Entries.{live}
 use Rattle.oct_bt.specs.Canonical.{canonical_data, canonical_size, node_total}
 use Rattle.oct_bt.specs.DataClasses.{data_classes}
 use Rattle.oct_bt.specs.File.{FileRead, bt_text, header_text, reading}
@@ -8,14 +9,21 @@ use Rattle.oct_bt.specs.declared.fault.BtFault.{BtFault}
 use Rattle.oct_bt.proofs.FilesBack.{file_back}
 use Rattle.oct_bt.proofs.Injective.{SameClasses, data_tells_classes}
 use Rattle.oct_io.specs.Files.{Files}
+use Rattle.oct_key.specs.Values.{SameValues}
 use Rattle.oct_key.specs.Voxel.{Voxel, IsInMap, IsResolution}
+use Rattle.oct_map.specs.Map.{Map}
+use Rattle.oct_query.proofs.Needed.{groups_needed, pruned_groups}
 use Rattle.oct_script.specs.Lines.{Line}
+use Rattle.oct_tree.specs.Tree.{Tree, IsLinked, value_at}
 use Rattle.oct_values.specs.Classes.{Classes}
+use Rattle.oct_values.specs.Counts.{group_count}
+use Rattle.oct_values.proofs.Uniform.{same_group_count}
 use Rattle.oct_session.specs.FileCommands.{classes_file}
 use Rattle.oct_session.specs.History.{State}
+use Rattle.oct_session.specs.Leaving.{StandsFor}
 use Rattle.oct_session.specs.Session.{progress}
 use Rattle.oct_session.specs.Setup.{Setup}
-use Rattle.oct_promise.specs.Promise.{classes_in, state_behind}
+use Rattle.oct_promise.specs.Lines.{classes_in, state_behind}
 use Rattle.oct_promise.specs.States.{IsSetUp}
 use Rattle.oct_promise.proofs.LowBytes.{data_of_file}
 use Rattle.oct_promise.proofs.StateCommands.{res_of}
@@ -55,6 +63,17 @@ files_alike o set files more lines others =
       λ same. first ∙ alike.1 same ∙ sym second,
     )
 
+-- what a save writes is read as the canonical data of its classes
+pub codes_saved : (o : Setup) → IsSetUp o → (files : Option Files) (lines : List Line)
+    (saved : FileRead) → reading (classes_file (state_behind o files lines)) ≡ Ok saved
+    → saved.codes ≡ canonical_data (classes_in (state_behind o files lines))
+unfolding codes_read
+codes_saved o set files lines saved is =
+    let s : State = state_behind o files lines in
+    let range : IsResolution s.base.res =
+    subst IsResolution (sym (res_of o (progress o files lines).history)) set.res in
+    sym (ap codes_read is) ∙ codes_back s.base.res (classes_in s) range
+
 -- and of all files with these classes none has less node data
 pub files_least : (o : Setup) → IsSetUp o → (files : Option Files) (lines : List Line)
     (file : List ℕ) (saved read : FileRead)
@@ -62,12 +81,20 @@ pub files_least : (o : Setup) → IsSetUp o → (files : Option Files) (lines : 
     → ((k : Voxel) → IsInMap k
     → data_classes read.codes k ≡ classes_in (state_behind o files lines) k)
     → length saved.codes ≤ length read.codes
-unfolding codes_read
 files_least o set files lines file saved read is_saved is same =
-    let s : State = state_behind o files lines in
-    let range : IsResolution s.base.res =
-    subst IsResolution (sym (res_of o (progress o files lines).history)) set.res in
-    let codes : canonical_data (classes_in s) ≡ saved.codes =
-    sym (codes_back s.base.res (classes_in s) range) ∙ ap codes_read is_saved in
-    subst (λ codes. length codes ≤ length read.codes) codes
-    (data_of_file file read (classes_in s) is same)
+    subst (λ codes. length codes ≤ length read.codes)
+    (sym (codes_saved o set files lines saved is_saved))
+    (data_of_file file read (classes_in (state_behind o files lines)) is same)
+
+-- a map that was pruned has the fewest groups of all trees of its values
+pub fewest_groups : (map : Map) (s : State) (other : Tree) → StandsFor map s
+    → s.is_pruned ≡ true → IsLinked map.tree → IsLinked other
+    → SameValues s.values (value_at other)
+    → (live map.tree.groups ≡ group_count s.values)
+    × (live map.tree.groups ≤ live other.groups)
+fewest_groups map s other stands pruned linked other_linked same =
+    let has = pruned_groups map.tree linked (stands.pruned pruned) in
+    let values = same_group_count s.values (value_at map.tree) stands.values in
+    let others = same_group_count s.values (value_at other) same in
+    let needs = groups_needed other other_linked in
+    (sym has ∙ sym values, omega (arith, has, values, others, needs))

@@ -55,10 +55,11 @@ use Rattle.oct_session.specs.declared.scan_block.ScanBlock.{ScanBlock}
 use Rattle.oct_session.specs.declared.scan_block.ScanBlock.TheVariants.{Scanning}
 use Rattle.oct_session.proofs.MapHistory.{state_more}
 use Rattle.oct_session.proofs.Progresses.{after_answered}
+use Rattle.oct_promise.specs.Lines.{IsLine, Replies, state_behind}
+use Rattle.oct_promise.specs.Promise.{IsScanDone}
 use Rattle.oct_promise.specs.ScanCounts.{AreThose, AreHit, AreFreed}
-use Rattle.oct_promise.specs.Sums.{hits_in, frees_in}
-use Rattle.oct_promise.specs.Promise.{IsLine, Replies, IsScanDone, state_behind}
 use Rattle.oct_promise.specs.States.{IsSetUp}
+use Rattle.oct_promise.specs.Sums.{hits_in, frees_in}
 use Rattle.oct_promise.proofs.Passing.{passing_exactly, each_once}
 use Rattle.oct_promise.proofs.StateCommands.{res_of}
 use Rattle.oct_promise.proofs.Telling.{told_and_left}
@@ -104,7 +105,7 @@ module _ (edge : ℕ) (window : Option Window) (hit miss : Event) (scan : Sighti
 -- ---- a scan
 
 scan_done : (s : State) (scan : Sighting) (lazy : Bool) → IsResolution s.base.res
-    → IsInside s.base.res scan → IsScanDone scan s (after s (Scanned scan lazy))
+    → IsInside s.base.res scan → IsScanDone scan lazy s (after s (Scanned scan lazy))
 scan_done s scan lazy range inside =
     let hit : Event = hit_event s.base.odds scan.odds in
     let miss : Event = miss_event s.base.odds scan.odds in
@@ -121,6 +122,7 @@ scan_done s scan lazy range inside =
       kept = λ k never. ap (λ e. after_event s.base.odds e (s.values k))
           (kept_event edge window hit miss scan k range inside never);
       beside = (refl, refl);
+      stale = refl;
     }
 
 -- ---- its reply
@@ -171,7 +173,7 @@ block_unrefused s scan done is =
 
 -- ---- the line that closes its block
 
-closes : (o : Setup) (p : Progress) (line : Line) (scan : ScanSoFar)
+pub closes : (o : Setup) (p : Progress) (line : Line) (scan : ScanSoFar)
     → p.block ≡ Some (Scanning scan) → next_command p line ≡ Ok command.End
     → effect_of o p line
     ≡ replied (block_reply (state_after o p.history) (Scanning scan))
@@ -220,7 +222,7 @@ pub scan_ends : (o : Setup) → IsSetUp o → (files : Option Files) (bytes : Li
     → IsLine o files bytes before line (Some (Scanning scan)) (Ok command.End)
     → (effect_of o (progress o files before) line).reply ≡ Some (reply_of.Scanned done)
     → Replies o files bytes before (reply_of.Scanned done)
-    × IsScanDone (sighting_so_far scan) (state_behind o files before)
+    × IsScanDone (sighting_so_far scan) scan.head.lazy (state_behind o files before)
     (state_behind o files (before ++ line ∷ []))
 scan_ends o set files bytes before line scan done is answer =
     let p : Progress = progress o files before in
@@ -236,10 +238,10 @@ scan_ends o set files bytes before line scan done is answer =
     ap (λ (x : Progress). state_after o x.history) (after_answered o p line is.running)
     ∙ state_more o p.history (effect_of o p line).added ∙ ap (after_all s) added in
     told_and_left o files bytes before line (Some (Scanning scan)) (Ok command.End)
-    (reply_of.Scanned done) (IsScanDone seen s) is (record {
+    (reply_of.Scanned done) (IsScanDone seen scan.head.lazy s) is (record {
       answer = answer;
       state =
-          subst (IsScanDone seen s) (sym leaves)
+          subst (IsScanDone seen scan.head.lazy s) (sym leaves)
           (scan_done s seen scan.head.lazy is_seen.range is_seen.inside);
     })
 

@@ -18,7 +18,7 @@ use Rattle.oct_session.specs.Session.{last_progress, session}
 use Rattle.oct_session.specs.Setup.{Setup}
 use Rattle.oct_session.specs.declared.scan_block.ScanBlock.{ScanBlock}
 use Rattle.oct_session.proofs.Progresses.{progress_push, progress_grows, after_answered}
-use Rattle.oct_promise.specs.Promise.{IsLine, Replies, state_behind}
+use Rattle.oct_promise.specs.Lines.{IsLine, Replies, state_behind}
 
 -- the text of a session begins with the replies to its lines
 abbrev BeginsWith : Progress → Outcome → Type 0

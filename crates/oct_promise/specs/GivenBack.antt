@@ -2,16 +2,19 @@
 use Rattle.std.specs.Prelude.{◌≡◌, ◌≢◌, ◌≤◌, ◌^◌, ℕ, List, [], ◌∷◌, ◌++◌, length, ⊤, Option}
 use Rattle.std.specs.Prelude.{Some, None, option_map, Ok}
 use Rattle.oct_bt.specs.Canonical.{canonical_size}
+use Rattle.oct_bt.specs.DataClasses.{data_classes}
+use Rattle.oct_bt.specs.File.{FileRead, reading}
 use Rattle.oct_io.specs.Files.{Files, saved}
+use Rattle.oct_io.specs.declared.store.Loaded.TheVariants.{Bytes}
 use Rattle.oct_script.specs.Lines.{Line}
 use Rattle.oct_script.specs.declared.command.Command.{Command}
 use Rattle.oct_script.specs.declared.command.Command.TheVariants.{Snapshot, Restore, Save, Load}
 use Rattle.oct_script.specs.declared.reply.Reply.TheVariants.{Restored, Loaded, Saved}
 use Rattle.oct_values.specs.Counts.{group_count}
-use Rattle.oct_promise.specs.Promise.{IsLine, Replies, state_behind, classes_in}
-use Rattle.oct_promise.specs.Promise.{IsGivenBack, IsLoadedBack}
+use Rattle.oct_promise.specs.Lines.{IsLine, Replies, state_behind, classes_in}
+use Rattle.oct_promise.specs.Promise.{IsGivenBack, IsLoaded}
 use Rattle.oct_session.specs.Commands.{Saving}
-use Rattle.oct_session.specs.FileCommands.{snapshot_file}
+use Rattle.oct_session.specs.FileCommands.{snapshot_file, found_in}
 use Rattle.oct_session.specs.Session.{Progress, effect_of, after_line, progress}
 use Rattle.oct_session.specs.Setup.{Setup}
 
@@ -91,5 +94,19 @@ AreSaveAndLoad o files bytes name t =
 pub record LoadsBack (o : Setup) (files : Files) (bytes : List ℕ) (t : TwoLines) : Type 0 where
   pub told : Replies o (Some files) bytes (up_to_second t)
       (Loaded (canonical_size (classes_in (state_behind o (Some files) t.before))))
-  pub left : IsLoadedBack (state_behind o (Some files) t.before)
-      (state_behind o (Some files) (with_second t))
+  pub left : IsLoaded (classes_in (state_behind o (Some files) t.before))
+      (state_behind o (Some files) (up_to_second t)) (state_behind o (Some files) (with_second t))
+
+-- ---- a load of any file
+
+-- The line reads a file of classes, whoever wrote it, that stands under this name, and tells the
+-- number of its nodes. Right behind it the voxels have its classes.
+pub record LoadsFile (o : Setup) (files : Option Files) (before : List Line) (line : Line)
+    (name : List ℕ) (nodes : ℕ) : Type 0 where
+  pub bytes : List ℕ
+  pub found : found_in (progress o files before).files name ≡ Some (Bytes bytes)
+  pub file : FileRead
+  pub read : reading bytes ≡ Ok file
+  pub counted : nodes ≡ file.nodes
+  pub left : IsLoaded (data_classes file.codes) (state_behind o files before)
+      (state_behind o files (before ++ line ∷ []))

@@ -1,6 +1,15 @@
+pub mod Lines
+pub mod Marks
 pub mod Promise
+pub mod Edits
+pub mod Regions
 pub mod ScanCounts
+pub mod Listed
 pub mod GivenBack
+pub mod Called
 pub mod States
 pub mod BlockReply
 pub mod Sums
+pub mod RegionFiles
+pub mod Endings
+pub mod Shifts

@@ -1,40 +1,82 @@
-//! The laws. Each computes nothing, and its clause is a theorem: those of the page
-//! `specs/Promise.antt` first, one sentence each, and then what else sessions come to.
+//! The laws. Each computes nothing, and its clause is a theorem: those of the pages
+//! `specs/Promise.antt`, `specs/Edits.antt` and `specs/Regions.antt` first, one sentence each, and
+//! then what else sessions come to.
 ghost use Rattle.std.specs.Prelude.{◌≡◌, ◌≤◌, ◌^◌, ◌↔◌, ◌∷◌, ◌++◌, ℕ, List, [], length, Bool};
-ghost use Rattle.std.specs.Prelude.{Option, Some, None, IfSome, Result, Ok};
+ghost use Rattle.std.specs.Prelude.{Option, Some, None, IfSome, Result, Ok, true, ℤ};
+ghost use Rattle.oct_arena.specs.Entries.{live};
+ghost use Rattle.oct_bt.specs.Canonical.{canonical_data};
 ghost use Rattle.oct_bt.specs.DataClasses.{data_classes};
 ghost use Rattle.oct_bt.specs.File.{FileRead, reading};
-ghost use Rattle.oct_io.specs.declared.status.Status.{Status};
+ghost use Rattle.oct_bt.specs.NodeData.{IsDataOf};
+ghost use Rattle.oct_file_tasks.specs.OverStore.{store_reply};
+ghost use Rattle.oct_file_tasks.specs.declared.store_task.PairTask.TheVariants.{Merge};
+ghost use Rattle.oct_file_tasks.specs.declared.store_task.StoreTask.{StoreTask};
 ghost use Rattle.oct_io.specs.Files.{Files};
 ghost use Rattle.oct_io.specs.Taken.{IsBegun};
-ghost use Rattle.oct_key.specs.Voxel.{Voxel, IsInMap};
+ghost use Rattle.oct_io.specs.declared.status.Status.TheVariants.{Done, TooLong};
+ghost use Rattle.oct_io.specs.declared.status.Status.TheVariants.{Refused as EndedRefused};
+ghost use Rattle.oct_io.specs.declared.status.Status.{Status};
+ghost use Rattle.oct_join.specs.Merged.{merged_classes};
+ghost use Rattle.oct_key.specs.Boxes.{Window};
+ghost use Rattle.oct_key.specs.Values.{Values, SameValues};
+ghost use Rattle.oct_key.specs.Voxel.{Voxel, IsInMap, IsResolution};
 ghost use Rattle.oct_key.specs.declared.point.Point.{Point};
+ghost use Rattle.oct_map.specs.Map.{Map};
+ghost use Rattle.oct_map.specs.Merges.{merged_values};
+ghost use Rattle.oct_merge.specs.declared.rule.Rule.{Rule};
+ghost use Rattle.oct_promise.specs.BlockReply.{IsBlock, RepliesOnce};
+ghost use Rattle.oct_promise.specs.Called.{AddsOwn, Adds};
+ghost use Rattle.oct_promise.specs.Edits.{IsEdited, IsBoxEdited, IsRefreshed, IsPruned, IsSurest};
+ghost use Rattle.oct_promise.specs.Edits.{IsCleared, IsLimitedTo, IsUnlimited, IsMarked};
+ghost use Rattle.oct_promise.specs.Edits.{IsUnmarked};
+ghost use Rattle.oct_promise.specs.Endings.{IsOverlong, HasRefusal, EndsBehind};
+ghost use Rattle.oct_promise.specs.GivenBack.{AreSaveAndLoad, LoadsBack, WritesFile, LoadsFile};
+ghost use Rattle.oct_promise.specs.GivenBack.{TwoLines, AreSnapshotAndRestore, GivesBack};
+ghost use Rattle.oct_promise.specs.Lines.{IsLine, Replies, state_behind, classes_in, WhereDone};
+ghost use Rattle.oct_promise.specs.Lines.{Always};
+ghost use Rattle.oct_promise.specs.Listed.{ListsBlocks, CountsNeeded};
+ghost use Rattle.oct_promise.specs.Marks.{IsLeftStale, IsMarkedBehind};
+ghost use Rattle.oct_promise.specs.Promise.{IsScanDone, GetsGreatest, CastsFirst, TellsChanges};
+ghost use Rattle.oct_promise.specs.Promise.{NeedsMark, NeedsRefresh};
+ghost use Rattle.oct_promise.specs.RegionFiles.{merge_of, Plan, Merged, boxes_of, file_of, IsPlan};
+ghost use Rattle.oct_promise.specs.Regions.{classes_within, values_within, Cover, CoverValues};
+ghost use Rattle.oct_promise.specs.Regions.{IsRegion, HoldsPart};
+ghost use Rattle.oct_promise.specs.ScanCounts.{AreHit, AreFreed};
+ghost use Rattle.oct_promise.specs.States.{IsSetUp, IsState};
+ghost use Rattle.oct_promise.specs.Sums.{IsSummed, IsBelow, IsDrill, drill_replies, drill_session};
+ghost use Rattle.oct_promise.specs.Shifts.{LiesOff, scan_moved, IsMoved};
+ghost use Rattle.oct_query.specs.Shown.{Shown};
+ghost use Rattle.oct_scan.specs.Beam.{Sighting};
+ghost use Rattle.oct_scan.specs.Answer.{IsInside};
+ghost use Rattle.oct_scan.specs.Scanned.{IsHit, IsFreed};
 ghost use Rattle.oct_script.specs.Lines.{Line};
-ghost use Rattle.oct_script.specs.declared.command.Command.{Command};
+ghost use Rattle.oct_script.specs.declared.command.Command.TheVariants as command;
 ghost use Rattle.oct_script.specs.declared.command.Command.TheVariants.{End, Get, Cast, Changes};
 ghost use Rattle.oct_script.specs.declared.command.Command.TheVariants.{Save, Snapshot};
+ghost use Rattle.oct_script.specs.declared.command.Command.{Command};
+ghost use Rattle.oct_script.specs.declared.command.Edit.{Edit};
 ghost use Rattle.oct_script.specs.declared.reply.Refusal.{Refusal};
-ghost use Rattle.oct_script.specs.declared.reply.Reply.TheVariants.{Scanned, Refused};
+ghost use Rattle.oct_script.specs.declared.reply.Reply.TheVariants as reply_of;
+ghost use Rattle.oct_script.specs.declared.reply.Reply.TheVariants.{Scanned, Refused, Blocks};
 ghost use Rattle.oct_script.specs.declared.reply.ScanDone.{ScanDone};
-ghost use Rattle.oct_values.specs.Counts.{group_count};
-ghost use Rattle.oct_promise.specs.Promise.{IsLine, Replies, state_behind, classes_in};
-ghost use Rattle.oct_promise.specs.Promise.{IsScanDone, GetsGreatest, CastsFirst, TellsChanges};
-ghost use Rattle.oct_promise.specs.ScanCounts.{AreHit, AreFreed};
-ghost use Rattle.oct_promise.specs.BlockReply.{IsBlock, RepliesOnce};
-ghost use Rattle.oct_promise.specs.GivenBack.{TwoLines, AreSnapshotAndRestore, GivesBack};
-ghost use Rattle.oct_promise.specs.GivenBack.{AreSaveAndLoad, LoadsBack, WritesFile};
-ghost use Rattle.oct_promise.specs.States.{IsSetUp, IsState};
-ghost use Rattle.oct_promise.specs.Sums.{IsSummed, IsBelow, IsDrill};
-ghost use Rattle.oct_promise.specs.Sums.{drill_replies, drill_session};
+ghost use Rattle.oct_session.specs.Building.{build, last_state};
 ghost use Rattle.oct_session.specs.Drill.{drilled, drill};
 ghost use Rattle.oct_session.specs.Ending.{MayEnd};
 ghost use Rattle.oct_session.specs.FileCommands.{classes_file, snapshot_file};
 ghost use Rattle.oct_session.specs.History.{History, state_after, value_after, alone_after};
+ghost use Rattle.oct_session.specs.History.{Likened, Replaced, Restored, Tracked, Untracked};
+ghost use Rattle.oct_session.specs.History.{State, Edited, Scanned as ScannedBy, Refreshed};
+ghost use Rattle.oct_session.specs.History.{Cleared};
+ghost use Rattle.oct_session.specs.Leaving.{StandsFor};
 ghost use Rattle.oct_session.specs.ScanSoFar.{ScanSoFar, sighting_so_far};
 ghost use Rattle.oct_session.specs.Session.{Progress, progress, effect_of, session};
 ghost use Rattle.oct_session.specs.Setup.{Setup, IsLimited};
-ghost use Rattle.oct_session.specs.declared.scan_block.ScanBlock.{ScanBlock};
 ghost use Rattle.oct_session.specs.declared.scan_block.ScanBlock.TheVariants.{Scanning};
+ghost use Rattle.oct_session.specs.declared.scan_block.ScanBlock.{ScanBlock};
+ghost use Rattle.oct_snap.specs.Reading.{Snapshot as SnapshotRead};
+ghost use Rattle.oct_tree.specs.Tree.{Tree, IsLinked, value_at};
+ghost use Rattle.oct_values.specs.Classes.{Classes};
+ghost use Rattle.oct_values.specs.Counts.{group_count};
 
 use oct_io::Store;
 use oct_session::Options;
@@ -59,7 +101,7 @@ pub fn scans_are_exact(options: &Options)
         → (effect_of options.now (progress options.now files before) line).reply
         ≡ Some (Scanned done)
         → Replies options.now files bytes before (Scanned done)
-        × IsScanDone (sighting_so_far scan) (state_behind options.now files before)
+        × IsScanDone (sighting_so_far scan) scan.head.lazy (state_behind options.now files before)
         (state_behind options.now files (before ++ line ∷ [])) }
 {
     keep(options);
@@ -96,12 +138,17 @@ pub fn values_are_folds()
 {}
 
 /// `get` at a depth answers the greatest value among the known voxels of the block of that depth
-/// that holds the point, or unknown where none is known.
+/// that holds the point, or unknown where none is known. Above a voxel it is refused while the map
+/// is stale, and answers otherwise.
 pub fn gets_are_greatest(options: &Options)
-    ensures { (files : Option Files) (bytes : List ℕ) (before : List Line) (line : Line)
+    ensures answers { (files : Option Files) (bytes : List ℕ) (before : List Line) (line : Line)
         (p : Point) (depth : ℕ)
-        → IsLine options.now files bytes before line None (Ok (Get p depth))
+        → IsLine options.now files bytes before line None (Ok (command.Get p depth))
         → GetsGreatest options.now files bytes before p depth }
+    ensures stale { (files : Option Files) (bytes : List ℕ) (before : List Line) (line : Line)
+        (p : Point) (depth : ℕ)
+        → IsLine options.now files bytes before line None (Ok (command.Get p depth))
+        → NeedsRefresh options.now files bytes before p depth }
 {
     keep(options);
 }
@@ -117,11 +164,36 @@ pub fn casts_are_first(options: &Options)
     keep(options);
 }
 
-/// `changes` answers how the classes of voxels differ from those at the mark.
+/// `list` shows, where it isn't refused, exactly the blocks of its depth that meet its box and hold
+/// a known voxel, each with the greatest value of one, by ascending x, then y, then z.
+pub fn lists_are_exact(options: &Options)
+    ensures { (files : Option Files) (bytes : List ℕ) (before : List Line) (line : Line)
+        (from to : Point) (depth : ℕ) (list : List Shown) (threshold : ℤ)
+        → IsLine options.now files bytes before line None (Ok (command.List from to depth))
+        → (effect_of options.now (progress options.now files before) line).reply
+        ≡ Some (Blocks list threshold)
+        → ListsBlocks options.now files bytes before from to depth list threshold }
+{
+    keep(options);
+}
+
+/// `counts` answers with the number of blocks above a voxel that aren't of one value, the groups of
+/// the least tree of these values, and with its nodes: these, and its leaves.
+pub fn counts_are_exact()
+    ensures { (o : Setup) (files : Option Files) (bytes : List ℕ) (before : List Line)
+        (line : Line) → IsLine o files bytes before line None (Ok command.Counts)
+        → CountsNeeded o files bytes before }
+{}
+
+/// `changes` answers how the classes of voxels differ from those at the mark, and is refused where
+/// no mark stands.
 pub fn changes_are_differences()
-    ensures { (o : Setup) (files : Option Files) (bytes : List ℕ) (earlier before : List Line)
-        (line : Line) → IsLine o files bytes before line None (Ok Changes)
-        → TellsChanges o files bytes earlier before }
+    ensures answers { (o : Setup) (files : Option Files) (bytes : List ℕ) (before : List Line)
+        (line : Line) → IsLine o files bytes before line None (Ok command.Changes)
+        → TellsChanges o files bytes before }
+    ensures unmarked { (o : Setup) (files : Option Files) (bytes : List ℕ) (before : List Line)
+        (line : Line) → IsLine o files bytes before line None (Ok command.Changes)
+        → NeedsMark o files bytes before }
 {}
 
 /// A line that is refused, whatever it is, changes no voxel and no file.
@@ -168,12 +240,25 @@ pub fn snapshots_are_restored<F: Store>(options: &Options, store: &F)
     keep(options);
 }
 
-/// A load gives back the classes that the save of its name wrote, and isn't refused, whatever
-/// stands between them that doesn't write that file.
+/// A load gives back the classes that the save of its name wrote, by the log-odds in force before
+/// it, and isn't refused, whatever stands between them that doesn't write that file.
 pub fn saves_are_loaded(options: &Options)
     ensures { (files : Files) (bytes name : List ℕ) (t : TwoLines)
         → AreSaveAndLoad options.now files bytes name t
         → LoadsBack options.now files bytes t }
+{
+    keep(options);
+}
+
+/// A load that isn't refused, of whatever file, leaves the voxels the classes that the file is read
+/// as, and tells the number of its nodes.
+pub fn loads_are_exact(options: &Options)
+    ensures { (files : Option Files) (bytes : List ℕ) (before : List Line) (line : Line)
+        (name : List ℕ) (nodes : ℕ)
+        → IsLine options.now files bytes before line None (Ok (command.Load name))
+        → (effect_of options.now (progress options.now files before) line).reply
+        ≡ Some (reply_of.Loaded nodes)
+        → LoadsFile options.now files before line name nodes }
 {
     keep(options);
 }
@@ -196,6 +281,213 @@ pub fn saves_are_canonical(options: &Options)
 {
     keep(options);
 }
+
+/// A save writes the canonical node data of its classes. For any two maps it is equal exactly where
+/// the classes are, and of all node data that stands for the same classes none is shorter, and none
+/// that is as short is another one.
+pub fn node_data_is_canonical(options: &Options)
+    ensures saved { (files : Option Files) (lines : List Line) (saved : FileRead)
+        → reading (classes_file (state_behind options.now files lines)) ≡ Ok saved
+        → saved.codes ≡ canonical_data (classes_in (state_behind options.now files lines)) }
+    ensures equal { (c e : Classes)
+        → (canonical_data c ≡ canonical_data e) ↔ ((k : Voxel) → IsInMap k → c k ≡ e k) }
+    ensures least { (c : Classes) (bytes : List ℕ) → IsDataOf c bytes
+        → length (canonical_data c) ≤ length bytes }
+    ensures only { (c : Classes) (bytes : List ℕ) → IsDataOf c bytes
+        → length bytes ≡ length (canonical_data c) → bytes ≡ canonical_data c }
+{
+    keep(options);
+}
+
+/// Where a session has pruned its map and no lazy edit stands behind that, the map has a group for
+/// each block that isn't of one value, and no tree of the same values has fewer groups.
+pub fn prunes_are_least()
+    ensures { (map : Map) (s : State) (other : Tree) → StandsFor map s → s.is_pruned ≡ true
+        → IsLinked map.tree → IsLinked other → SameValues s.values (value_at other)
+        → (live map.tree.groups ≡ group_count s.values)
+        × (live map.tree.groups ≤ live other.groups) }
+{}
+
+/// A session whose script is read to its end ends with status 1 exactly where some reply is a
+/// refusal, and else with 0; and as too long exactly where the script has more bytes than it may
+/// have, and no `quit` ends within these.
+pub fn sessions_end_exactly()
+    ensures too_long { (o : Setup) (files : Option Files) (bytes : List ℕ)
+        → ((session o files bytes).status ≡ TooLong) ↔ IsOverlong o files bytes }
+    ensures refused { (o : Setup) (files : Option Files) (bytes : List ℕ)
+        → ((session o files bytes).status ≡ EndedRefused)
+        ↔ ((¬ IsOverlong o files bytes) × HasRefusal o files bytes) }
+    ensures done { (o : Setup) (files : Option Files) (bytes : List ℕ)
+        → ((session o files bytes).status ≡ Done)
+        ↔ ((¬ IsOverlong o files bytes) × (¬ HasRefusal o files bytes)) }
+{}
+
+/// A `quit` ends the session: it has no reply, and no line behind it has an effect.
+pub fn quits_end_sessions()
+    ensures { (o : Setup) (files : Option Files) (bytes : List ℕ) (before : List Line)
+        (line : Line) → IsLine o files bytes before line None (Ok command.Quit)
+        → EndsBehind o files bytes before }
+{}
+
+// ---- the page of edits
+
+/// An edit of a point that isn't refused, lazy or not, changes the voxel that holds the point as
+/// its word says, by the log-odds in force, and nothing else.
+pub fn edits_are_exact(options: &Options)
+    ensures { (p : Point) (edit : Edit) (lazy : Bool)
+        → WhereDone options.now (command.Edit p edit lazy) (IsEdited p edit lazy) }
+{
+    keep(options);
+}
+
+/// An edit of a box that isn't refused changes so each voxel of the box, and nothing else.
+pub fn boxes_are_exact(options: &Options)
+    ensures { (from to : Point) (edit : Edit)
+        → WhereDone options.now (command.Box from to edit) (IsBoxEdited from to edit) }
+{
+    keep(options);
+}
+
+/// `refresh` and `prune` change no value, no mark and no box.
+pub fn upkeep_changes_no_value()
+    ensures refresh { (o : Setup) → Always o command.Refresh IsRefreshed }
+    ensures prune { (o : Setup) → Always o command.Prune IsPruned }
+{}
+
+/// `maxlik` leaves each voxel its class, with the value that is surest of it.
+pub fn maxlik_is_exact()
+    ensures { (o : Setup) → Always o command.MaxLik IsSurest }
+{}
+
+/// `clear` leaves each voxel unknown and no mark, and keeps log-odds, limits and the box of scans.
+pub fn clears_are_exact()
+    ensures { (o : Setup) → Always o command.Clear IsCleared }
+{}
+
+/// `limit` and `nolimit` change the box of scans, and nothing else.
+pub fn limits_are_exact(options: &Options)
+    ensures limits { (from to : Point)
+        → WhereDone options.now (command.Limit from to) (IsLimitedTo from to) }
+    ensures ends { Always options.now command.NoLimit IsUnlimited }
+{
+    keep(options);
+}
+
+/// `track` marks the classes that are there, `untrack` takes the mark away, and neither changes
+/// anything else.
+pub fn marks_are_exact()
+    ensures track { (o : Setup) → Always o command.Track IsMarked }
+    ensures untrack { (o : Setup) → Always o command.Untrack IsUnmarked }
+{}
+
+/// A mark stands exactly since a `track` behind which there was no other one, no `untrack`, and no
+/// accepted clear, load or restore, and has the classes that were there at that `track`.
+pub fn marks_live()
+    ensures { (o : Setup) (history : History) (c : Classes)
+        → ((state_after o history).marked ≡ Some c)
+        ↔ ((earlier : History) × IsMarkedBehind history earlier
+        × (c ≡ classes_in (state_after o earlier))) }
+{}
+
+/// A map is stale exactly where a lazy edit or scan was accepted behind which there was no refresh,
+/// `maxlik`, clear, load or restore that was accepted.
+pub fn maps_are_stale()
+    ensures { (o : Setup) (history : History)
+        → ((state_after o history).is_stale ≡ true) ↔ IsLeftStale history }
+{}
+
+/// What these speak of, the history, has the accepted commands one after another. A line adds to it
+/// nothing, or the action of its own command or of the scan whose block it ends, and this only
+/// where its reply is no refusal.
+pub fn lines_add_their_own()
+    ensures { (o : Setup) (p : Progress) (line : Line) → AddsOwn o p line }
+{}
+
+/// And a command that sets or ends a mark, or makes a map stale or fresh, adds its action where it
+/// isn't refused.
+pub fn histories_have_lines()
+    ensures edits { (o : Setup) (p : Point) (edit : Edit) (lazy : Bool)
+        → Adds o None (command.Edit p edit lazy) reply_of.Ok (λ a. a ≡ Edited p edit lazy) }
+    ensures scans { (o : Setup) (scan : ScanSoFar) (done : ScanDone)
+        → Adds o (Some (Scanning scan)) command.End (reply_of.Scanned done)
+        (λ a. a ≡ ScannedBy (sighting_so_far scan) scan.head.lazy) }
+    ensures refresh { (o : Setup) → Adds o None command.Refresh reply_of.Ok (λ a. a ≡ Refreshed) }
+    ensures maxlik { (o : Setup) → Adds o None command.MaxLik reply_of.Ok (λ a. a ≡ Likened) }
+    ensures clear { (o : Setup) → Adds o None command.Clear reply_of.Ok (λ a. a ≡ Cleared) }
+    ensures track { (o : Setup) → Adds o None command.Track reply_of.Ok (λ a. a ≡ Tracked) }
+    ensures untrack { (o : Setup) → Adds o None command.Untrack reply_of.Ok (λ a. a ≡ Untracked) }
+    ensures load { (o : Setup) (name : List ℕ) (nodes : ℕ)
+        → Adds o None (command.Load name) (reply_of.Loaded nodes)
+        (λ a. (classes : Classes) × (a ≡ Replaced classes)) }
+    ensures restore { (o : Setup) (name : List ℕ) (groups : ℕ)
+        → Adds o None (command.Restore name) (reply_of.Restored groups)
+        (λ a. (q : SnapshotRead) × (a ≡ Restored q)) }
+{}
+
+// ---- the page of regions
+
+/// A session whose scans are limited to a box has within it the values of the session over the same
+/// lines without that limit, and knows nothing outside, where neither map is ever full.
+pub fn regions_hold_their_part()
+    ensures { (o : Setup) (files more : Option Files) (box : Window) (limit : Line)
+        (lines : List Line) → IsRegion o files more box limit lines
+        → HoldsPart box (state_behind o files lines) (state_behind o more (limit ∷ lines)) }
+{}
+
+/// What is merged, by any rule, of the classes within some boxes and within others are the classes
+/// within all of them; and boxes that leave out no known voxel have all classes. The same holds of
+/// values, as two maps are merged (`OccMap::merge`).
+pub fn merges_join_regions()
+    ensures joined { (rule : Rule) (boxes others : List Window) (classes : Classes) (k : Voxel)
+        → merged_classes rule (classes_within boxes classes) (classes_within others classes) k
+        ≡ classes_within (boxes ++ others) classes k }
+    ensures whole { (boxes : List Window) (classes : Classes) → Cover boxes classes
+        → (k : Voxel) → IsInMap k → classes_within boxes classes k ≡ classes k }
+    ensures values_joined { (rule : Rule) (boxes others : List Window) (values : Values)
+        (k : Voxel)
+        → merged_values rule (values_within boxes values) (values_within others values) k
+        ≡ values_within (boxes ++ others) values k }
+    ensures values_whole { (boxes : List Window) (values : Values) → CoverValues boxes values
+        → (k : Voxel) → IsInMap k → values_within boxes values k ≡ values k }
+{}
+
+/// Whatever the regions, their number, and the order and the rules of the merges: no merge is
+/// refused, and where the boxes leave out no voxel that one build of the script knows, what comes
+/// out is byte for byte the file that it writes.
+pub fn regions_join_to_one(options: &Options)
+    ensures done { (files : Option Files) (bytes : List ℕ) (rule : Rule) (first second : Plan)
+        → IsPlan options.now files bytes (Merged rule first second)
+        → (merge_of rule (file_of options.now bytes first)
+        (file_of options.now bytes second)).status ≡ Done }
+    ensures joined { (files : Option Files) (bytes : List ℕ) (plan : Plan)
+        → IsPlan options.now files bytes plan
+        → Cover (boxes_of plan) (classes_in (last_state options.now files bytes))
+        → file_of options.now bytes plan ≡ (build options.now files bytes).text }
+{
+    keep(options);
+}
+
+/// What these speak of, the merge of two files, is what the task `merge` answers where the store
+/// has them.
+pub fn merges_are_answers()
+    ensures { (rule : Rule) (task : StoreTask) (files : Files) (first second : List ℕ)
+        → task.asks ≡ Merge rule → files task.first ≡ Some first → files task.second ≡ Some second
+        → store_reply task files ≡ merge_of rule first second }
+{}
+
+/// A scan of a sensor that stands whole voxels elsewhere hits and frees the voxels that lie so far
+/// from those of the scan. So of two maps that are one world, whole voxels apart, such scans make
+/// two that are so again.
+pub fn shifted_scans_are_shifted()
+    ensures voxels { (edge : ℕ) (way : Point) (scan : Sighting) (k l : Voxel)
+        → IsResolution edge → IsInMap k → IsInMap l → LiesOff edge way k l
+        → (IsHit edge (scan_moved way scan) l ↔ IsHit edge scan k)
+        × (IsFreed edge (scan_moved way scan) l ↔ IsFreed edge scan k) }
+    ensures maps { (way : Point) (scan : Sighting) (lazy : Bool) (s t u v : State)
+        → IsResolution s.base.res → IsInside s.base.res scan → s.base.update_box ≡ None
+        → t.base ≡ s.base → IsScanDone scan lazy s u → IsScanDone (scan_moved way scan) lazy t v
+        → IsMoved s.base.res way s.values t.values → IsMoved s.base.res way u.values v.values }
+{}
 
 // ---- what else sessions come to
 
