@@ -39,6 +39,7 @@ SUITES = (
     Suite("refusals", "all places tell of refusals alike", "tools/check_refusals", 1),
     Suite("version", "all places have one version", "tools/check_version", 1),
     Suite("promise", "the number of definitions in documents", "tools/check_promise", 1),
+    Suite("numbers", "other numbers in documents that can be counted", "tools/check_numbers", 1),
     # The program
     Suite("examples", "examples/ beside their replies and the model",
           "examples/check program", 30),
