@@ -198,9 +198,12 @@ static void try_edits(void) {
     EXPECT(value, 6);
     EXPECT_DETAILS(octofix_edit_all(&map, edits, 0, true, &count, &details), 0, 0, 0);
     EXPECT(count, 0);
-    const octofix_point_edit bad[] = {{p, OCTOFIX_SET, 8}, {p, 4, 0}};
-    EXPECT_DETAILS(octofix_edit_all(&map, bad, 2, false, &count, &details), 47, 1, 0);
+    const octofix_point_edit bad[] = {{p, OCTOFIX_SET, 8}, {p, 4, 0}, {p, OCTOFIX_SET, 9}};
+    EXPECT_DETAILS(octofix_edit_all(&map, bad, 3, true, &count, &details), 47, 1, 0);
     EXPECT(count, 1);
+    EXPECT(octofix_get(&map, &p, 16, &value), 0);
+    EXPECT(value, 8); /* none was done behind the first that is refused */
+    EXPECT(octofix_refresh(&map), 0);
     const octofix_point_edit unnumbered[] = {{p, OCTOFIX_FORGET, INT32_MIN},
                                          {q, OCTOFIX_LIKELY, INT32_MAX}};
     EXPECT_DETAILS(octofix_edit_all(&map, unnumbered, 2, false, &count, &details), 0, 0, 0);
@@ -258,6 +261,11 @@ static void try_scans(void) {
     EXPECT_DETAILS(octofix_scan(&map, &ahead, &here, 1, &nowhere_far, &counted, &details), 0, 0, 0);
     EXPECT(counted.hits, 1);
     EXPECT(counted.frees, 0);
+    const octofix_pose apart = {at(50, 50, 50), 1, 0, 0, 0};
+    const octofix_point near = at(200, 0, 0);
+    EXPECT_DETAILS(octofix_scan(&map, &apart, &near, 1, &no_range, &counted, &details), 0, 0, 0);
+    EXPECT(counted.hits, 1);
+    EXPECT(counted.frees, 2);
     const octofix_scan_options lazy = {-1, 0, 0, true};
     octofix_settings settings;
     EXPECT(octofix_scan(&map, &ahead, points, 0, &lazy, &counted, &details), 0);
@@ -554,6 +562,34 @@ static void try_lists(void) {
     octofix_close(&map);
 }
 
+/* One occupied voxel, which is listed and bounded, is new since the mark, and stops casts. */
+static void try_one_voxel(void) {
+    octofix_map map = opened(&default_odds, &default_limits);
+    const octofix_point p = at(50, 50, 50), q = at(250, 50, 50);
+    const octofix_segment ways[] = {{p, q}, {q, p}};
+    octofix_stop stops[2];
+    octofix_box box;
+    EXPECT(octofix_track(&map), 0);
+    EXPECT(octofix_edit(&map, &p, OCTOFIX_SET, 850, false, &details), 0);
+    EXPECT(octofix_leaves_of(&map, OCTOFIX_FREE_VOXELS, blocks, 64, &count), 0);
+    EXPECT(count, 0);
+    EXPECT(octofix_leaves_of(&map, OCTOFIX_OCCUPIED_VOXELS, blocks, 64, &count), 0);
+    EXPECT(count, 1);
+    EXPECT(blocks[0].depth, 16);
+    EXPECT(blocks[0].x, 32768);
+    EXPECT(blocks[0].value, 850);
+    EXPECT(octofix_changes(&map, changes, 64, &count), 0);
+    EXPECT(count, 1);
+    EXPECT(changes[0].kind, OCTOFIX_NEW);
+    EXPECT(octofix_bounds(&map, OCTOFIX_OCCUPIED_VOXELS, &box), 0);
+    EXPECT(box.low.z, 32768);
+    EXPECT(box.high.z, 32768);
+    EXPECT(octofix_cast_all(&map, ways, 2, true, stops, 2), 0);
+    EXPECT(stops[0].key.x, 32768);
+    EXPECT(stops[1].key.x, 32768);
+    octofix_close(&map);
+}
+
 /* Of a map with a free block of eight voxels from 0 on, and an occupied voxel above one of them. */
 static void try_grids(void) {
     octofix_map map = opened(&default_odds, &default_limits);
@@ -600,9 +636,12 @@ static void try_rays(void) {
     const octofix_point p = at(50, 50, 50), q = at(-150, 50, 50), far = at(3276800, 0, 0);
     EXPECT_DETAILS(octofix_ray(RES, &p, &q, keys, 2, &count, &details), 46, 0, 0);
     EXPECT(count, 3);
+    keys[3].x = 4711;
     EXPECT_DETAILS(octofix_ray(RES, &p, &q, keys, 64, &count, &details), 0, 0, 0);
+    EXPECT(count, 3);
     EXPECT(keys[0].x, 32768);
     EXPECT(keys[2].x, 32766);
+    EXPECT(keys[3].x, 4711);
     EXPECT_DETAILS(octofix_ray(99999, &p, &q, keys, 64, &count, &details), 3, 0, 0);
     EXPECT_DETAILS(octofix_ray(RES, &far, &q, keys, 64, &count, &details), 24, 1, 0);
     EXPECT_DETAILS(octofix_ray(RES, &p, &far, keys, 64, &count, &details), 24, 2, 0);
@@ -662,6 +701,8 @@ static void try_refused_merges(void) {
     octofix_close(&other);
     other = opened(&odds, &default_limits);
     EXPECT_DETAILS(octofix_merge(&map, &other, OCTOFIX_FIRST, &details), 48, 0, 0);
+    EXPECT(octofix_get(&map, &p, 16, &value), 0);
+    EXPECT(value, 1);
     octofix_close(&other);
     other = opened(&default_odds, &few);
     EXPECT(octofix_edit(&other, &q, OCTOFIX_SET, 2, false, &details), 0);
@@ -798,6 +839,17 @@ static void try_snapshots(void) {
     EXPECT_DETAILS(octofix_restore(&map, bytes, 0, &details), 20, 0, 0);
     EXPECT_DETAILS(octofix_restore(&map, bytes, length - 1, &details), 17, length - 1, 0);
     EXPECT_DETAILS(octofix_restore(&map, bytes, length + 1, &details), 18, length, 0);
+    octofix_answer answers[2];
+    const octofix_point both[] = {p, at(250, 50, 50)};
+    EXPECT(octofix_get_all(&map, both, 2, 16, answers, 2), 0);
+    EXPECT(answers[0].code, 0);
+    EXPECT(answers[0].value, 850);
+    EXPECT(answers[1].code, 42);
+    static uint8_t file[512];
+    EXPECT(octofix_save(&map, file, sizeof file, &count), 0);
+    EXPECT(octofix_load(&map, file, count, &details), 0);
+    EXPECT(octofix_get(&map, &p, 16, &value), 0);
+    EXPECT(value, 3500); /* a file has classes alone */
     bytes[15] ^= 1; /* the last byte of the resolution */
     EXPECT_DETAILS(octofix_restore(&map, bytes, length, &details), 35, 100000001, 100000000);
     bytes[15] ^= 1;
@@ -860,6 +912,17 @@ static void try_the_rest(void) {
     EXPECT(octofix_get(&map, &p, 16, &value), 42);
     EXPECT(octofix_settings_of(&map, &settings), 0);
     EXPECT(settings.is_tracked, false);
+    const octofix_odds odds = {700, -300, -1000, 2000, 5};
+    const octofix_limits limits = {1000, 100000};
+    octofix_map other = opened(&odds, &limits);
+    EXPECT(octofix_settings_of(&other, &settings), 0);
+    EXPECT(settings.odds.hit, 700);
+    EXPECT(settings.odds.max, 2000);
+    EXPECT(settings.limits.max_groups, 1000);
+    EXPECT(settings.limits.max_cells, 100000);
+    EXPECT(settings.is_stale, false);
+    EXPECT(settings.is_tracked, false);
+    EXPECT(octofix_close(&other), 0);
     octofix_map moved = map; /* and the old place isn't used again */
     EXPECT(octofix_get(&moved, &p, 0, &value), 42);
     EXPECT(octofix_close(&moved), 0);
@@ -905,6 +968,7 @@ int main(void) {
     try_limits();
     try_queries();
     try_lists();
+    try_one_voxel();
     try_grids();
     try_rays();
     try_changes();

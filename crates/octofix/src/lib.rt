@@ -65,7 +65,5 @@ mod rays;
 mod refusal;
 mod scans;
 mod slot;
-#[cfg(test)]
-mod tests;
 mod types;
 mod whole;
