@@ -168,8 +168,28 @@ def asks_for_the_second_file_last(program, folder):
             yield f"{words[0]} of a second file that can't be read: {asked}"
 
 
+def drills_as_its_script_goes(program, folder):
+    """A drill sums up the session over its script, and tells the length of the file that a build of
+    it writes."""
+    script = run(program, ["gen", "1", "3", "50"], b"", folder)[1]
+    # Counts are asked in place of `quit`.
+    asked = run(program, ["session", "0.05"], script.removesuffix(b"quit\n") + b"counts\n", folder)
+    replies = (b"ok hits 50 frees 7349\nok hits 50 frees 6503\nok hits 50 frees 6796\n"
+               b"groups 17469 nodes 38133\n")
+    if asked != (0, replies, b""):
+        yield f"the session: {asked}"
+    status, file, _ = run(program, ["build", "0.05"], script, folder)
+    if (status, len(file)) != (0, 35_079):
+        yield f"the build: {status}, with {len(file)} bytes"
+    drill = run(program, ["drill", "1", "3", "50"], b"", folder)
+    if drill != (0, b"scans 3 refused 0\nhits 150 frees 20648\ngroups 17469 nodes 38133\n"
+                 b"bt 35079\n", b""):
+        yield f"the drill: {drill}"
+
+
 RUNS = [answers_before_it_waits, quits_at_once, runs_out_of_memory, holds_more_than_it_can,
-        is_run_once, leaves_old_bytes_to_their_reader, asks_for_the_second_file_last]
+        is_run_once, leaves_old_bytes_to_their_reader, asks_for_the_second_file_last,
+        drills_as_its_script_goes]
 
 
 def differences(program):

@@ -1,7 +1,7 @@
 """What a row is: the words of a run, what it is given, and what it must answer; and the bytes of
 files, as the formats put them together."""
 from functools import lru_cache
-from typing import Callable, Mapping, NamedTuple, Optional, Tuple, Union
+from typing import Callable, Mapping, NamedTuple, Optional, Sequence, Tuple, Union
 
 METRES_OF_RES = 10 ** 9
 DEFAULT_ODDS = (850, -400, -2000, 3500, 0)
@@ -31,9 +31,10 @@ Wanted = Union[str, bytes, Front, Callable[[], bytes]]
 
 class Row(NamedTuple):
     """One run of the program in a folder of its own. A status that isn't named is 1 where a wanted
-    line is a refusal, and 0 else. What isn't in `left` is left in the folder as it was."""
+    line is a refusal, and 0 else. What isn't in `left` is left in the folder as it was. Words are
+    parted by blanks, or stand as a list, of which one may be empty."""
     rule: str
-    words: str
+    words: Union[str, Sequence[str]]
     given: Given = ""
     wanted: Wanted = ""
     status: Optional[int] = None

@@ -22,8 +22,9 @@
 //! # How it works
 //!
 //! `main` joins `run` to the standard input and output and to the current folder. The tests call
-//! `run` over sources, sinks and stores in memory, whole scripts and files at a time: the worked
-//! examples, every status but want of memory, and a fault at each call.
+//! `run` over sources, sinks and stores in memory: inputs in pieces of any length, and a fault at
+//! each call. What scripts and files are answered stands as rows in the folder `tests/rows`, which
+//! the built program is run on.
 //!
 //! # Who stands on it
 //!

@@ -1,21 +1,10 @@
-//! Scripts and their replies, by the program's top call.
+//! The program's top call over inputs in pieces, and where the world fails.
 ghost use Rattle.std.specs.Prelude.{◌<◌};
 
-mod bad_files;
-mod builds;
 mod faults;
-mod fold;
-mod frontiers;
-mod generated;
-mod grids;
-mod limits;
-mod lists;
 mod merges;
 mod options;
 mod pieces;
-mod scans;
-mod scripts;
-mod snapshots;
 
 use oct_io::{
     FileBytes, KeptList, MemorySink, MemorySource, MemoryStore, Sink, Source, Status, Store,
@@ -25,18 +14,6 @@ use oct_tasks::run;
 use std::alloc::Global;
 use std::process::Abort;
 use std::test::Fail;
-
-/// A script at a resolution of 0.1 m, its replies, and the status.
-type Case = (&'static str, &'static str, Status);
-
-/// An option and its value, a script at a resolution of 0.1 m, its replies, and the status.
-type LimitCase = (
-    &'static str,
-    &'static str,
-    &'static str,
-    &'static str,
-    Status,
-);
 
 /// The words of a command line.
 fn owned(alloc: Global, words: &[&str]) -> Result<Vec<String>, Fail> {
@@ -153,57 +130,4 @@ fn expect_answer_by(
     let (most_read, most_written) = lengths;
     let answered = answer(alloc, words, input, most_read, most_written);
     expect_answered(rt, words, input, answered, want);
-}
-
-/// Expects that the program ends so, by reads and writes of 4,096 bytes, and writes so much.
-fn expect_length(
-    rt: &impl Abort,
-    alloc: Global,
-    words: &[&str],
-    input: &[u8],
-    want: (Status, usize),
-) {
-    match answer(alloc, words, input, 4096, 4096) {
-        Ok((status, written)) => assert_eq!(rt; (status, written.len()), want),
-        Err(_) => panic!(rt; "out of memory"),
-    }
-}
-
-/// The same as `expect_answer_by`, by reads of 4,096 bytes.
-fn expect_answer(
-    rt: &impl Abort,
-    alloc: Global,
-    words: &[&str],
-    input: &[u8],
-    most_written: usize,
-    want: (Status, &[u8]),
-)
-    requires { 0 < most_written }
-{
-    expect_answer_by(rt, alloc, words, input, (4096, most_written), want);
-}
-
-/// A script at a resolution of 0.1 m.
-fn session(alloc: Global, script: &[u8]) -> Result<(Status, Vec<u8>), Fail> {
-    answer(alloc, &["session", "0.1"], script, 4096, 4096)
-}
-
-/// Runs each script of a table.
-fn check(rt: &impl Abort, alloc: Global, cases: &[Case]) {
-    let words = ["session", "0.1"];
-    for (script, replies, ends) in cases {
-        let want = (*ends, replies.as_bytes());
-        expect_answer(rt, alloc, &words, script.as_bytes(), 4096, want);
-    }
-}
-
-/// Runs each script of a table under its limit, by reads of this length.
-fn check_limits(rt: &impl Abort, alloc: Global, cases: &[LimitCase], most_read: usize)
-    requires { 0 < most_read }
-{
-    for (option, limit, script, replies, ends) in cases {
-        let words = ["session", "0.1", option, limit];
-        let want = (*ends, replies.as_bytes());
-        expect_answer_by(rt, alloc, &words, script.as_bytes(), (most_read, 100), want);
-    }
 }

@@ -1,6 +1,5 @@
 //! The words of the command line.
-use super::{expect_answer, owned};
-use oct_io::Status;
+use super::owned;
 use oct_tasks::{Task, read_words};
 use std::alloc::Global;
 use std::process::Abort;
@@ -28,19 +27,4 @@ fn words_ask_for_a_session(rt: HostRuntime) -> Result<(), Fail> {
         &["session", "0.1", "--max-bytes", "10"],
         10,
     )
-}
-
-/// Words that ask for no task; those of `tests/rows` are neither empty nor the launcher's.
-const NO_TASK: &[&[&str]] = &[
-    &["--help"],
-    &["session", "0.1", "--hit", ""],
-    &["gen", "", "0", "0"],
-];
-
-#[test]
-fn words_that_ask_for_nothing_read_and_write_nothing(rt: HostRuntime) {
-    for &words in NO_TASK {
-        let want = (Status::Usage, b"".as_slice());
-        expect_answer(&rt, rt.alloc(), words, b"hit 0 0 0\n", 4096, want);
-    }
 }
