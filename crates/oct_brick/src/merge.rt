@@ -84,6 +84,3 @@ fn add(merged: &mut Vec<Brick>, brick: Brick) -> Result<(), Memory>
     }
     Ok(())
 }
-
-#[cfg(test)]
-mod tests;

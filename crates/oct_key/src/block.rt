@@ -102,6 +102,3 @@ pub fn child_index(k: Key, depth: u8) -> u8
     let z = (k.z >> bit) & 1;
     (x + 2 * y + 4 * z) as u8
 }
-
-#[cfg(test)]
-mod tests;

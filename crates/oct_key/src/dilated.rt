@@ -106,29 +106,3 @@ fn bits_stepped(bits: u64, rises: bool, now: u64) -> u64
     let by = if rises { ONE_FILLED } else { u64::MAX };
     bits.wrapping_add(now * by) & THIRD_BITS
 }
-
-#[cfg(test)]
-mod tests {
-    use super::*;
-    use crate::tests::expect_number;
-
-    #[test]
-    fn counts_with_the_bits_at_their_places(rt: HostRuntime) {
-        let mut y = Dilated::new(7);
-        y.increment();
-        let mut z = Dilated::new(8);
-        z.decrement();
-        expect_number(&rt, morton_of_axes(&Dilated::new(3), &y, &z), 0o2455);
-    }
-
-    #[test]
-    fn steps_where_it_is_to(rt: HostRuntime) {
-        let mut x = Dilated::new(7);
-        x.step(true, 1);
-        let mut y = Dilated::new(8);
-        y.step(false, 1);
-        let mut z = Dilated::new(0);
-        z.step(false, 0);
-        expect_number(&rt, morton_of_axes(&x, &y, &z), 0o1222);
-    }
-}

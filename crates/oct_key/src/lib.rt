@@ -59,8 +59,6 @@ mod lists;
 mod morton_code;
 mod point;
 mod resolution;
-#[cfg(test)]
-mod tests;
 mod window;
 
 pub use block::{Block, child_index};

@@ -88,6 +88,3 @@ fn key_on_axis(edge: u64, c: i64) -> Option<u16>
     let key = c.div_euclid(edge as i64) + MIDDLE;
     u16::try_from(key).ok()
 }
-
-#[cfg(test)]
-mod tests;

@@ -137,6 +137,3 @@ fn covers_across(lo: u16, hi: u16, depth: u8, n: u16) -> bool
     let end = (u32::from(hi) + 1) >> height;
     first <= u32::from(n) && u32::from(n) < end
 }
-
-#[cfg(test)]
-mod tests;

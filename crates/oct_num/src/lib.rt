@@ -51,8 +51,6 @@ mod metres_writing;
 mod root;
 mod rounding;
 mod sign;
-#[cfg(test)]
-mod tests;
 mod whole;
 
 pub use division::floor_div;

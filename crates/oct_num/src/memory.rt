@@ -24,17 +24,3 @@ impl<T: Drop> From<AllocFailed<T>> for Memory {
         Memory
     }
 }
-
-#[cfg(test)]
-mod tests {
-    use super::*;
-    use crate::tests::expect_text;
-    use std::test::Fail;
-
-    #[test]
-    fn says_what_was_wanting(rt: HostRuntime) -> Result<(), Fail> {
-        let text = format!(in rt.alloc(); "{Memory}")?;
-        expect_text(&rt, text.as_bytes(), "out of memory");
-        Ok(())
-    }
-}

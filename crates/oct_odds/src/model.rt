@@ -137,6 +137,3 @@ impl Default for OddsModel {
         }
     }
 }
-
-#[cfg(test)]
-mod tests;

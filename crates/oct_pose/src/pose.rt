@@ -73,6 +73,3 @@ impl Pose {
         }
     }
 }
-
-#[cfg(test)]
-mod tests;

@@ -77,6 +77,3 @@ fn cut_distance(distance: u64, range: u64, length: u64) -> i64
     let part = u128::from(distance) * u128::from(range) / u128::from(length);
     part as i64
 }
-
-#[cfg(test)]
-mod tests;

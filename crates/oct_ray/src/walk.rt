@@ -201,6 +201,3 @@ impl Iterator for Walk {
 }
 
 impl FusedIterator for Walk {}
-
-#[cfg(test)]
-mod tests;

@@ -1,5 +1,0 @@
-use Rattle.std.proofs.Common.{rules}
-use Rattle.oct_pose.proofs.pose.tests.posed.Goals as goal
-
-pub apply-requires : goal.apply-requires
-apply-requires c = c.is_in_reach-else-not-is_in_reach.ensures.0 (search rules)
