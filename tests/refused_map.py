@@ -41,10 +41,12 @@ def run(last):
     with tempfile.TemporaryDirectory() as folder:
         left = shutil.ignore_patterns("out", "must-fail")
         shutil.copytree(os.path.join(ROOT, "crates"), os.path.join(folder, "crates"), ignore=left)
-        shutil.copy(os.path.join(ROOT, "crates.txt"), folder)
+        with open(os.path.join(ROOT, "crates.txt")) as file:
+            crates = file.read().replace("oct_map_tests:", "oct_map_tests: oct_bt oct_query")
+        with open(os.path.join(folder, "crates.txt"), "w") as file:
+            file.write(crates)
         tests = os.path.join(folder, "crates", "oct_map_tests")
         shutil.rmtree(os.path.join(tests, "proofs"))
-        shutil.rmtree(os.path.join(tests, "src", "tests"))
         with open(os.path.join(tests, "src", "tests.rt"), "w") as file:
             file.write(trial(last))
         call = ["rt", "try", "--test", "--fail-alloc", str(last)]

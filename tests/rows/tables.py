@@ -1,7 +1,7 @@
 """Tables of runs: for each rule the scripts, or the words and files, that show it."""
 from row import DOWN, Row, bt, data, down, head, parted, short_bt, snap1, snap2, value
-from worked import (BOX, EIGHT_FILE, EMPTY_SNAP, FREE_FILE, FREE_HALF, TWO_CLASSES, VOXEL_FILE,
-                    VOXEL_SNAP)
+from worked import (BOX, EIGHT_FILE, EMPTY_SNAP, FREE_FILE, FREE_HALF, SCAN_FILE, TWO_CLASSES,
+                    VOXEL_FILE, VOXEL_SNAP)
 
 # Scripts of a session at 0.1 m, and their replies.
 SCRIPTS = {
@@ -177,6 +177,13 @@ SCRIPTS = {
          "ok hits 1 frees 2 / known 850 occupied / refused 22 Stale"),
     ],
     "A block of lines has one reply": [
+        ("scan 0.05 0.05 0.05 1 0 0 0 all lazy ; p 0.2 0 0 ; # aside ; p 0.4 0 0 ; end ; "
+         "get 0 0 0 16 ; get 0.1 0 0 16 ; get 0 0 0 15",
+         "ok hits 2 frees 3 / known -400 free / known -400 free / refused 22 Stale"),
+        ("scan 0 0 0 1 0 0 0 all ; p 1 0 ; hit 0 0 x ; end ; get 0 0 0 16",
+         "refused 29 Syntax line 2 column 6 / unknown"),
+        ("scan 0 ; p 1 0 ; end ; get 0 0 0 16", "refused 29 Syntax line 1 column 7 / unknown"),
+        ("prune ; scan 0 0 0 0 0 0 0 all lazy ; p 1 0 0", "ok / refused 31 OpenScan line 2"),
         (b"scan 0.05 0.05 0.05 1 0 0 0 all\n\n# p\n \t\n p 0.2\t0 0 \r\n end \n",
          "ok hits 1 frees 2"),
         (b"scan 0 0 0 1 0 0 0 all\nend", "ok hits 0 frees 0"),
@@ -423,6 +430,124 @@ PAIRED = {
     ],
 }
 
+# A scan from the middle of voxel 0 along x, without its range, and its points.
+ROW, ROW_ENDS = "scan 0.05 0.05 0.05 1 0 0 0", "p 0.2 0 0 ; p 0.4 0 0 ; end"
+
+
+def snapped_corner():
+    """The node of a child of the map of which the voxel in the lowest corner alone was hit."""
+    node = value(850)
+    for _ in range(15):
+        node = parted({0: node})
+    return node
+
+
+# Options of such a session, scripts of edits, scans and files of a map, and their replies.
+WIDE = " ; ".join(f"p 12 {y} {z}" for y in range(-12, 13, 6) for z in range(-12, 13, 6))
+HIT_EIGHT = [f"hit {x} {y} {z}" for x in (0, 0.1) for y in (0, 0.1) for z in (0, 0.1)]
+MAPS = {
+    "A box changes each of its voxels, and the whole map is one node": [
+        ("--max-groups 121", "box -0.1 -0.1 -0.1 0 0 0 hit ; get -0.1 -0.1 -0.1 16 ; "
+         "get 0 0 0 16 ; get 0.1 0 0 16 ; "
+         "box -3276.8 -3276.8 -3276.8 3276.799999999 3276.799999999 3276.799999999 miss ; "
+         "get 0 0 0 16 ; get 0.1 0 0 16 ; "
+         "box -3276.8 -3276.8 -3276.8 3276.799999999 3276.799999999 3276.799999999 set 70 ; counts",
+         "ok / known 850 occupied / known 850 occupied / unknown / ok / known 450 occupied / "
+         "known -400 free / ok / groups 0 nodes 1"),
+    ],
+    "A full map refuses a box by what it needs, and stays": [
+        ("--max-groups 121", "box -0.1 -0.1 -0.1 0 0 0 hit ; box -0.1 -0.1 -0.1 0 0 0 hit ; "
+         "box 0.05 0.05 0.05 0 0 0 hit ; box 0 0 0.1 0 0 0 hit ; box 0 0.1 0 0.9 0 0.9 hit ; "
+         "box 0.1 0 0 0 0.9 0.9 hit ; get -0.1 -0.1 -0.1 16 ; get 0 0 0 16 ; get 0.1 0 0 16",
+         "ok / refused 23 Full groups 121 need 121 / refused 23 Full groups 121 need 16 / "
+         "refused 26 BadBox / refused 26 BadBox / refused 26 BadBox / known 850 occupied / "
+         "known 850 occupied / unknown"),
+    ],
+    "Counts give back the groups that the values don't need, and leave a map stale": [
+        ("--max-groups 32", " ; ".join(f"{hit} lazy" for hit in HIT_EIGHT)
+         + " ; counts ; get 0 0 0 15 ; hit -0.1 -0.1 -0.1 ; counts ; forget -0.1 -0.1 -0.1",
+         8 * "ok / " + "groups 15 nodes 16 / refused 22 Stale / ok / groups 30 nodes 32 / "
+         "refused 23 Full groups 30 need 16"),
+    ],
+    "An edit is refused as full by the values that the map has": [
+        (f"--max-groups {groups}",
+         "hit 0 0 0 ; hit 0 0 0 ; hit -0.1 -0.1 -0.1 lazy ; get 0 0 0 0 ; "
+         "get -0.1 -0.1 -0.1 16 ; counts",
+         "ok / refused 23 Full groups 16 need 16 / refused 23 Full groups 16 need 16 / "
+         "known 850 occupied / unknown / groups 16 nodes 17") for groups in (16, 31)
+    ] + [
+        ("--max-groups 32", " ; ".join(HIT_EIGHT) + " ; hit 0 0 0 ; counts",
+         9 * "ok / " + "groups 16 nodes 24"),
+    ],
+    "A second scan goes on from the values of the first, and a lazy one makes the map stale": [
+        ("", f"{ROW} all ; {ROW_ENDS} ; get 0.4 0 0 15 ; {ROW} all lazy ; {ROW_ENDS} ; "
+         "get 0.4 0 0 16 ; get 0.4 0 0 15",
+         "ok hits 2 frees 3 / known 850 occupied / ok hits 2 frees 3 / known 1700 occupied / "
+         "refused 22 Stale"),
+    ],
+    "A refused lazy scan leaves a map as it was, and not stale": [
+        ("--max-groups 16 --max-cells 3", f"{ROW} all lazy ; {ROW_ENDS} ; "
+         f"{ROW} all lazy ; p 0.2 0 0 ; p 3276.8 0 0 ; end ; "
+         "scan 3276.8 0 0 1 0 0 0 all lazy ; end ; get 0.05 0.05 0.05 0",
+         "refused 8 TooManyCells index 1 cells 8 / refused 7 PointOutside index 1 / "
+         "refused 6 OriginOutside / unknown"),
+        ("--max-groups 16", f"{ROW} all lazy ; {ROW_ENDS} ; get 0.05 0.05 0.05 0",
+         "refused 23 Full groups 0 need 19 / unknown"),
+    ],
+    # (the numbers are those that the model in tests/model gives, too)
+    "A scan of 25 beams to a face of a cube of 24 m needs thousands of groups": [
+        ("--max-groups 1024 --max-cells 100000", f"{ROW} all ; {WIDE} ; end",
+         "refused 23 Full groups 0 need 4780"),
+        ("--max-groups 100000 --max-cells 100000", f"{ROW} all ; {WIDE} ; end",
+         "ok hits 25 frees 5079"),
+    ],
+    "The file of five voxels gives their classes, and an empty one none": [
+        ("--max-groups 19", "hit -0.1 -0.1 -0.1 lazy ; load one ; get -0.1 -0.1 -0.1 16 ; "
+         "get 0 0 0 0 ; load five ; list 0 0 0 0.4 0 0 16 ; load empty ; get 0.2 0 0 0",
+         "ok / loaded 17 / unknown / known 3500 occupied / loaded 24 / "
+         "block 32768 32768 32768 -2000 free / block 32769 32768 32768 -2000 free / "
+         "block 32770 32768 32768 3500 occupied / block 32771 32768 32768 -2000 free / "
+         "block 32772 32768 32768 3500 occupied / end 5 / loaded 0 / unknown"),
+    ],
+    "A refused load leaves a map, and leaves it stale": [
+        ("--max-groups 18", "hit -0.1 -0.1 -0.1 lazy ; load coarse ; load five ; "
+         "get -0.1 -0.1 -0.1 15 ; get -0.1 -0.1 -0.1 16",
+         "ok / refused 35 OtherResolution file 200000000 session 100000000 / "
+         "refused 23 Full groups 0 need 19 / refused 22 Stale / known 850 occupied"),
+    ],
+    "A refused restore leaves a map, and leaves it stale": [
+        ("--max-groups 16", "hit 0 0 0 lazy ; restore two ; restore short ; get 0 0 0 15 ; "
+         "get 0 0 0 16", "ok / refused 23 Full groups 0 need 31 / refused 17 Truncated at 53 / "
+         "refused 22 Stale / known 850 occupied"),
+    ],
+    "A restore ends staleness": [
+        ("--max-groups 16", "hit -0.1 -0.1 -0.1 lazy ; restore hit ; get -0.1 -0.1 -0.1 16 ; "
+         "get 0 0 0 0", "ok / restored groups 16 / unknown / known 850 occupied"),
+    ],
+    "Of two files of a name the one that was saved last stays": [
+        ("", "hit 1 0 0 ; save five ; clear ; hit 0 0 0 lazy ; save five ; load five ; get 0 0 0 0",
+         "ok / saved 169 / ok / ok / saved 169 / loaded 17 / known 3500 occupied"),
+    ],
+    "A load that is cut short leaves the map": [
+        ("", "load one ; load cut ; get 0 0 0 16",
+         "loaded 17 / refused 17 Truncated at 61 / known 3500 occupied"),
+    ],
+}
+OWN_ODDS = (500, -300, -1000, 3000, 1)
+WITH_BOX = snap2(value(70), OWN_ODDS, box="000100020003" + "010000020003")
+MAP_FILES = {
+    "one": VOXEL_FILE, "five": SCAN_FILE, "empty": EMPTY,
+    "coarse": short_bt(17, DOWN + "0200", "0.2"), "cut": short_bt(16, "00"),
+    "hit": snap1(down(value(850), 16)), "short": WITH_BOX[:53],
+    "two": snap1(parted({6: snapped_corner(), 7: snapped_corner()})),
+}
+
+# The five numbers of log-odds, as options and in a snapshot, each of which alone differs from that
+# of a session that names none.
+OTHERS = [("--hit 500", (500, -400, -2000, 3500, 0)), ("--miss -300", (850, -300, -2000, 3500, 0)),
+          ("--min -1000", (850, -400, -1000, 3500, 0)), ("--max 3000", (850, -400, -2000, 3000, 0)),
+          ("--thr 100", (850, -400, -2000, 3500, 100))]
+
 SNAPSHOTS = [
     Row("The box that stood is back with a snapshot, and the mark and staleness are gone",
         "session 0.1",
@@ -466,6 +591,21 @@ ROWS = [
 ] + [
     Row(rule, words, "hit 0 0 0", wanted, status, files=FILES)
     for rule, cases in PAIRED.items() for words, wanted, status in cases
+] + [
+    Row(rule, f"session 0.1 {options}", given, wanted, files=MAP_FILES,
+        left={"five": VOXEL_FILE} if "save five" in given else {})
+    for rule, cases in MAPS.items() for options, given, wanted in cases
+] + [
+    Row("A snapshot is that which was restored", "session 0.1", "restore s ; snapshot t",
+        f"restored groups 0 / saved {len(file)}", files={"s": file}, left={"t": file})
+    for file in (WITH_BOX, snap2(value(70), OWN_ODDS))
+] + [
+    Row("A restore brings each number of the log-odds", f"session 0.1 {option}",
+        "snapshot b ; restore a ; snapshot c ; restore b ; snapshot d",
+        "saved 38 / restored groups 0 / saved 38 / restored groups 0 / saved 38",
+        files={"a": EMPTY_SNAP},
+        left={"b": snap2(b"\0", odds), "c": EMPTY_SNAP, "d": snap2(b"\0", odds)})
+    for option, odds in OTHERS
 ] + [
     Row("An empty word is none", words, "hit 0 0 0", "", 2)
     for words in (["session", "0.1", "--hit", ""], ["gen", "", "0", "0"])

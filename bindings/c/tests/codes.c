@@ -562,34 +562,6 @@ static void try_lists(void) {
     octofix_close(&map);
 }
 
-/* One occupied voxel, which is listed and bounded, is new since the mark, and stops casts. */
-static void try_one_voxel(void) {
-    octofix_map map = opened(&default_odds, &default_limits);
-    const octofix_point p = at(50, 50, 50), q = at(250, 50, 50);
-    const octofix_segment ways[] = {{p, q}, {q, p}};
-    octofix_stop stops[2];
-    octofix_box box;
-    EXPECT(octofix_track(&map), 0);
-    EXPECT(octofix_edit(&map, &p, OCTOFIX_SET, 850, false, &details), 0);
-    EXPECT(octofix_leaves_of(&map, OCTOFIX_FREE_VOXELS, blocks, 64, &count), 0);
-    EXPECT(count, 0);
-    EXPECT(octofix_leaves_of(&map, OCTOFIX_OCCUPIED_VOXELS, blocks, 64, &count), 0);
-    EXPECT(count, 1);
-    EXPECT(blocks[0].depth, 16);
-    EXPECT(blocks[0].x, 32768);
-    EXPECT(blocks[0].value, 850);
-    EXPECT(octofix_changes(&map, changes, 64, &count), 0);
-    EXPECT(count, 1);
-    EXPECT(changes[0].kind, OCTOFIX_NEW);
-    EXPECT(octofix_bounds(&map, OCTOFIX_OCCUPIED_VOXELS, &box), 0);
-    EXPECT(box.low.z, 32768);
-    EXPECT(box.high.z, 32768);
-    EXPECT(octofix_cast_all(&map, ways, 2, true, stops, 2), 0);
-    EXPECT(stops[0].key.x, 32768);
-    EXPECT(stops[1].key.x, 32768);
-    octofix_close(&map);
-}
-
 /* Of a map with a free block of eight voxels from 0 on, and an occupied voxel above one of them. */
 static void try_grids(void) {
     octofix_map map = opened(&default_odds, &default_limits);
@@ -684,93 +656,6 @@ static void try_changes(void) {
     EXPECT(octofix_untrack(&map), 0);
     EXPECT(octofix_changes(&map, changes, 64, &count), 28);
     octofix_close(&map);
-}
-
-/* A map of 0.2 m, one of other log-odds, and one of few groups, into a map of one voxel. */
-static void try_refused_merges(void) {
-    octofix_map map = opened(&default_odds, &default_limits), other = {0};
-    const octofix_point p = at(50, 50, 50), q = at(-50, 50, 50);
-    const octofix_odds odds = {850, -400, -2000, 3500, 1};
-    const octofix_limits few = {16, 100};
-    int32_t value;
-    EXPECT(octofix_edit(&map, &p, OCTOFIX_SET, 1, false, &details), 0);
-    EXPECT(octofix_open(&other, 2 * RES, &odds, &default_limits, &details), 0);
-    EXPECT_DETAILS(octofix_merge(&map, &other, 3, &details), 47, 0, 0);
-    EXPECT_DETAILS(octofix_merge(&map, &other, UINT32_MAX, &details), 47, 0, 0);
-    EXPECT_DETAILS(octofix_merge(&map, &other, OCTOFIX_FIRST, &details), 35, 2 * RES, RES);
-    octofix_close(&other);
-    other = opened(&odds, &default_limits);
-    EXPECT_DETAILS(octofix_merge(&map, &other, OCTOFIX_FIRST, &details), 48, 0, 0);
-    EXPECT(octofix_get(&map, &p, 16, &value), 0);
-    EXPECT(value, 1);
-    octofix_close(&other);
-    other = opened(&default_odds, &few);
-    EXPECT(octofix_edit(&other, &q, OCTOFIX_SET, 2, false, &details), 0);
-    EXPECT_DETAILS(octofix_merge(&other, &map, OCTOFIX_LEAST, &details), 23, 16, 15);
-    EXPECT(octofix_get(&other, &p, 16, &value), 42);
-    EXPECT(octofix_get(&map, &q, 16, &value), 42);
-    octofix_close(&other);
-    octofix_close(&map);
-}
-
-/* A box that is too wide is told before too many groups. Its two corners share the groups of depths
- * 0 to 9, and each has six of its own. */
-static void try_wide_and_full_merge(void) {
-    const octofix_limits few = {16, 100};
-    octofix_map map = opened(&default_odds, &few), other = opened(&default_odds, &default_limits);
-    const octofix_point p = at(50, 50, 50), far = at(10050, 10050, 9950);
-    EXPECT(octofix_edit(&other, &p, OCTOFIX_SET, 1, false, &details), 0);
-    EXPECT(octofix_edit(&other, &far, OCTOFIX_SET, 1, false, &details), 0);
-    EXPECT(octofix_track(&map), 0);
-    EXPECT_DETAILS(octofix_merge(&map, &other, OCTOFIX_FIRST, &details), 27, 101 * 101 * 100, 0);
-    EXPECT(octofix_untrack(&map), 0);
-    EXPECT_DETAILS(octofix_merge(&map, &other, OCTOFIX_FIRST, &details), 23, 0, 22);
-    octofix_close(&other);
-    octofix_close(&map);
-}
-
-static void try_merges(void) {
-    const octofix_point p = at(50, 50, 50), q = at(150, 50, 50), r = at(250, 50, 50);
-    const octofix_point s = at(350, 50, 50), far = at(10050, 10050, 9950);
-    const int32_t both[] = {850, 850, -400}; /* by first, greatest and least */
-    const int32_t both_again[] = {-300, 7, -300};
-    for (uint32_t rule = OCTOFIX_FIRST; rule <= OCTOFIX_LEAST; rule++) {
-        octofix_map map = opened(&default_odds, &default_limits);
-        octofix_map other = opened(&default_odds, &default_limits);
-        int32_t value = 0;
-        EXPECT(octofix_edit(&map, &p, OCTOFIX_SET, 850, false, &details), 0);
-        EXPECT(octofix_edit(&map, &q, OCTOFIX_SET, 5, false, &details), 0);
-        EXPECT(octofix_edit(&other, &p, OCTOFIX_SET, -400, false, &details), 0);
-        EXPECT(octofix_edit(&other, &r, OCTOFIX_SET, 6, true, &details), 0);
-        EXPECT(octofix_edit(&map, &s, OCTOFIX_SET, -300, false, &details), 0);
-        EXPECT(octofix_edit(&other, &s, OCTOFIX_SET, 7, true, &details), 0);
-        EXPECT(octofix_track(&map), 0);
-        EXPECT_DETAILS(octofix_merge(&map, &other, rule, &details), 0, 0, 0);
-        EXPECT(octofix_get(&map, &p, 16, &value), 0);
-        EXPECT(value, both[rule]);
-        EXPECT(octofix_get(&map, &s, 16, &value), 0);
-        EXPECT(value, both_again[rule]);
-        EXPECT(octofix_get(&map, &q, 16, &value), 0);
-        EXPECT(value, 5);
-        EXPECT(octofix_get(&map, &r, 0, &value), 0);
-        EXPECT(value, rule == OCTOFIX_LEAST ? 6 : 850);
-        EXPECT(octofix_get(&other, &p, 16, &value), 0);
-        EXPECT(value, -400);
-        EXPECT(octofix_get(&other, &q, 16, &value), 42);
-        EXPECT(octofix_get(&other, &p, 0, &value), 22);
-        EXPECT(octofix_changes(&map, changes, 64, &count), 0);
-        EXPECT(count, rule == OCTOFIX_FIRST ? 1 : 2);
-        const size_t added = rule == OCTOFIX_LEAST ? 1 : 0; /* r lies between p and s */
-        EXPECT(changes[added].kind, OCTOFIX_NEW);
-        EXPECT(octofix_edit(&other, &far, OCTOFIX_SET, 1, false, &details), 0);
-        EXPECT_DETAILS(octofix_merge(&map, &other, rule, &details), 27, 101 * 101 * 100, 0);
-        EXPECT(octofix_track(&other), 0); /* which knows more than a mark bears, unlike the map */
-        EXPECT_DETAILS(octofix_merge(&other, &map, rule, &details), 0, 0, 0);
-        EXPECT(octofix_untrack(&map), 0);
-        EXPECT_DETAILS(octofix_merge(&map, &other, rule, &details), 0, 0, 0);
-        octofix_close(&other);
-        octofix_close(&map);
-    }
 }
 
 static void load(octofix_map *map, int line, const char *text, const char *records, size_t length,
@@ -968,13 +853,9 @@ int main(void) {
     try_limits();
     try_queries();
     try_lists();
-    try_one_voxel();
     try_grids();
     try_rays();
     try_changes();
-    try_refused_merges();
-    try_wide_and_full_merge();
-    try_merges();
     try_loads();
     try_snapshots();
     try_the_rest();

@@ -1,5 +1,6 @@
-//! The tests of [`oct_map`]: worked examples of the calls of an [`oct_map::OccMap`], what each
-//! refusal leaves, the order of the refusals, and the texts of the faults.
+//! The tests of [`oct_map`]: what an [`oct_map::OccMap`] keeps and gives back of its memory, and the
+//! texts of its faults. What its calls answer is told by the rows of `tests/rows` and by the tests in
+//! `bindings/c/tests`.
 //!
 //! They compare the definitions with examples worked out by hand, and show that calls succeed while
 //! there is memory, which no clause can say. They call public functions alone. `rt test` in this
