@@ -42,8 +42,6 @@ mod generator;
 mod laws;
 mod line;
 mod lines;
-#[cfg(test)]
-mod tests;
 mod writing;
 
 pub use generator::Generator;

@@ -82,8 +82,6 @@ mod std_sink;
 mod std_source;
 mod stop;
 mod store;
-#[cfg(test)]
-mod tests;
 
 pub use failing_sink::FailingSink;
 pub use failing_source::FailingSource;

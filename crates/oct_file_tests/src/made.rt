@@ -2,7 +2,7 @@
 //! that fails.
 ghost use Rattle.std.specs.Prelude.{◌≤◌};
 
-use crate::{Generator, gen_script, generate};
+use oct_gen::{Generator, gen_script, generate};
 use oct_io::{FailingSink, KeptList, MemorySink, Sink, SinkFault, Source};
 use oct_num::Memory;
 use std::alloc::Global;

@@ -1,11 +1,20 @@
 //! What a gather hands to a sink, piece by piece, and calls that fail by their numbers.
 ghost use Rattle.std.specs.Prelude.{◌<◌, ◌≤◌, None};
 
-use crate::{
+mod file_bytes;
+mod folder_store;
+mod memory_sink;
+mod memory_source;
+mod piece;
+mod std_sink;
+mod std_source;
+mod store;
+
+use arrayvec::ArrayVec;
+use oct_io::{
     Failed, FailingSink, FailingSource, FailingStore, FileBytes, Gather, KeptList, Loaded,
     MemorySink, Sink, SinkFault, Source, Store, StoreFault, write_all,
 };
-use arrayvec::ArrayVec;
 use oct_num::Memory;
 use std::alloc::Global;
 use std::process::Abort;
@@ -31,22 +40,17 @@ impl Sink for Noting {
 }
 
 /// Expects these bytes.
-pub(crate) fn expect_bytes(rt: &impl Abort, bytes: &[u8], want: &[u8]) {
+fn expect_bytes(rt: &impl Abort, bytes: &[u8], want: &[u8]) {
     expect_found(rt, Some(bytes), Some(want));
 }
 
 /// Expects that these bytes are there, or none.
-pub(crate) fn expect_found(rt: &impl Abort, found: Option<&[u8]>, want: Option<&[u8]>) {
+fn expect_found(rt: &impl Abort, found: Option<&[u8]>, want: Option<&[u8]>) {
     assert_eq!(rt; found, want);
 }
 
 /// Expects that a read has moved these bytes to the front of the buffer.
-pub(crate) fn expect_moved(
-    rt: &impl Abort,
-    buffer: &[u8],
-    count: Result<usize, Failed>,
-    want: &[u8],
-) {
+fn expect_moved(rt: &impl Abort, buffer: &[u8], count: Result<usize, Failed>, want: &[u8]) {
     let moved = match count {
         Ok(count) => buffer.get(..count),
         Err(Failed) => None,
@@ -55,7 +59,7 @@ pub(crate) fn expect_moved(
 }
 
 /// Expects that so many were counted.
-pub(crate) fn expect_count(rt: &impl Abort, count: u64, want: u64) {
+fn expect_count(rt: &impl Abort, count: u64, want: u64) {
     assert_eq!(rt; count, want);
 }
 
@@ -74,7 +78,7 @@ fn list_of(alloc: Global, numbers: &[u64]) -> Result<KeptList, Memory> {
 }
 
 /// Expects that one write of the piece is answered so.
-pub(crate) fn expect_write<K: Sink>(
+fn expect_write<K: Sink>(
     rt: &impl Abort,
     sink: &mut K,
     piece: &[u8],
@@ -84,7 +88,7 @@ pub(crate) fn expect_write<K: Sink>(
 }
 
 /// Expects that writing all of the piece is answered so.
-pub(crate) fn expect_write_all<K: Sink>(
+fn expect_write_all<K: Sink>(
     rt: &impl Abort,
     sink: &mut K,
     piece: &[u8],
@@ -230,7 +234,7 @@ fn reads_fail_by_their_numbers(rt: HostRuntime) -> Result<(), Fail> {
 }
 
 /// Expects that a save is answered so.
-pub(crate) fn expect_save<F: Store>(
+fn expect_save<F: Store>(
     rt: &impl Abort,
     store: &mut F,
     name: &str,
@@ -241,13 +245,7 @@ pub(crate) fn expect_save<F: Store>(
 }
 
 /// Expects that a load gives these bytes.
-pub(crate) fn expect_load<F: Store>(
-    rt: &impl Abort,
-    alloc: Global,
-    store: &mut F,
-    name: &str,
-    want: &[u8],
-) {
+fn expect_load<F: Store>(rt: &impl Abort, alloc: Global, store: &mut F, name: &str, want: &[u8]) {
     match store.load(alloc, name) {
         Ok(Loaded::Bytes(bytes)) => expect_bytes(rt, bytes.as_slice(), want),
         _ => panic!(rt; "no bytes"),
@@ -255,12 +253,12 @@ pub(crate) fn expect_load<F: Store>(
 }
 
 /// Expects that a load finds no such file.
-pub(crate) fn expect_missing<F: Store>(rt: &impl Abort, alloc: Global, store: &mut F, name: &str) {
+fn expect_missing<F: Store>(rt: &impl Abort, alloc: Global, store: &mut F, name: &str) {
     assert!(rt; matches!(store.load(alloc, name), Ok(Loaded::Missing)));
 }
 
 /// Expects that a load fails.
-pub(crate) fn expect_no_load<F: Store>(rt: &impl Abort, alloc: Global, store: &mut F, name: &str) {
+fn expect_no_load<F: Store>(rt: &impl Abort, alloc: Global, store: &mut F, name: &str) {
     assert!(rt; matches!(store.load(alloc, name), Err(StoreFault::Failed)));
 }
 
