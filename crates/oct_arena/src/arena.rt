@@ -235,6 +235,3 @@ impl NodeArena {
         self.rows.len() as u32 - self.used + self.given
     }
 }
-
-#[cfg(test)]
-mod tests;

@@ -47,6 +47,3 @@ mod way;
 pub use laws::casts_are_right;
 pub use outcome::Cast;
 pub use ray::cast;
-
-#[cfg(test)]
-mod tests;

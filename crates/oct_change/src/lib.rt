@@ -51,6 +51,3 @@ pub use changes::{Changes, Note};
 pub use kind::{Change, Kind};
 pub use laws::changes_are_right;
 pub use list::ChangeList;
-
-#[cfg(test)]
-mod tests;

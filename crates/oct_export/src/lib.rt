@@ -49,8 +49,6 @@ mod laws;
 mod line;
 mod scene;
 mod strip;
-#[cfg(test)]
-mod tests;
 
 pub use cells::{column_count, fill_cells};
 pub use counting::box_count;

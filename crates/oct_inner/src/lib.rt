@@ -42,8 +42,6 @@
 mod likelihood;
 mod pruning;
 mod refreshing;
-#[cfg(test)]
-mod tests;
 
 pub use likelihood::maximum_likelihood;
 pub use pruning::prune;

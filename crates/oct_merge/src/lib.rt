@@ -44,8 +44,6 @@ mod merging;
 mod need;
 mod rule;
 mod table;
-#[cfg(test)]
-mod tests;
 mod walk;
 
 pub use merging::merge;

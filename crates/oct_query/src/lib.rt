@@ -71,6 +71,3 @@ pub use nodes::counts;
 pub use paths::Paths;
 pub use sought::Sought;
 pub use totals::{Counts, LeastTree};
-
-#[cfg(test)]
-mod tests;

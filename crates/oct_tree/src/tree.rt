@@ -402,6 +402,3 @@ impl OccTree {
         let _root = self.root;
     }
 }
-
-#[cfg(test)]
-mod tests;
