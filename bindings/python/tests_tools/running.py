@@ -17,6 +17,29 @@ from octofix.tools.command import main
 DATA = Path(__file__).parent / "data"
 
 
+# How old files begin, by their endings.
+FRONTS = {
+    "bt": b"# Octomap OcTree binary file\n",
+    "snap": b"OCTSNAP2",
+    "html": b'<!doctype html>\n<meta name="generator" content="octofix view">\n',
+    "png": b"\x89PNG\r\n\x1a\n",
+    "pgm": b"P5\n",
+    "yaml": b"image: old.pgm\n",
+    "ply": b"ply\n",
+    "pcd": b"# .PCD v0.7\n",
+    "csv": b"x,y,z\n",
+    "npy": b"\x93NUMPY",
+    "txt": b"scan 0 0 0 1 0 0 0 all\n",
+    "xyz": b"1.5 -2 0\n",
+}
+OLD_MAP = FRONTS["bt"] + b"old"
+
+
+def old(name):
+    """The content of an old file that a tool may replace, of the kind that the name says."""
+    return FRONTS[name.rpartition(".")[2]] + b"old"
+
+
 @dataclass(frozen=True)
 class Ran:
     """The status, the output, and the lines on standard error."""

@@ -115,7 +115,10 @@ class Jobs(InFolder):
         words = ["map", "--res", 0.2, "--jobs", 2, *CLOUDS, "-o", "a.bt"]
         said = "04.npy: its point 0 lies outside the map "
         self.refused(said + "(points are in metres; --range cuts beams, a larger "
-                     "--res has more space)", *words)
+                     "--res has more space); the map so far, of 4 scans, is in a.bt.partial",
+                     *words)  # fmt: skip
+        self.done("map", "--res", 0.2, *CLOUDS[:4], "-o", "b.bt")
+        self.assertEqual(content_of("a.bt.partial"), content_of("b.bt"))
 
     def test_a_region_that_is_full(self):
         """The other one may have done the scan, so that it can't be left out."""
@@ -148,13 +151,36 @@ class Jobs(InFolder):
         with mock.patch.object(mapping, "do_scan", fail):
             words = ["map", "--res", 0.2, "--jobs", 2, *CLOUDS[:3], "-o", "a.bt"]
             self.refused("memory ran out", *words)
+        self.assertEqual([it for it in os.listdir() if it.startswith("a.bt")], [])
+
+    def test_no_memory_late(self):
+        """What all threads have done is kept: one scan at least."""
+        save_drive(np.random.default_rng(1))
+        do_scan, done = mapping.do_scan, []
+
+        def fail(*words):
+            if threading.current_thread().name.startswith("crew"):
+                done.append(words)
+                if len(done) > 5:
+                    raise MemoryError
+            do_scan(*words)
+
+        with mock.patch.object(mapping, "do_scan", fail):
+            words = ["map", "--res", 0.2, "--jobs", 2, *CLOUDS[:4], "-o", "a.bt"]
+            ran = self.done(*words, status=1)
+        said = "memory ran out; the map so far, of ([1-4]) scans and parts of later ones, is in "
+        whole = int(re.search(said, ran.said)[1])
+        self.done("map", "--res", 0.2, *CLOUDS[:whole], "-o", "b.bt")
+        both = [Map.from_bt(it) for it in ("a.bt.partial", "b.bt")]
+        came, wanted = (set(map(tuple, it.voxels("known").tolist())) for it in both)
+        self.assertGreaterEqual(came, wanted)
 
     def test_no_memory_for_a_merge(self):
         save_drive(np.random.default_rng(1))
         with mock.patch.object(Map, "merge", side_effect=MemoryError):
             words = ["map", "--res", 0.2, "--jobs", 3, *CLOUDS[:3], "-o", "a.bt"]
             self.refused("memory ran out", *words)
-        self.assertFalse(os.path.exists("a.bt"))
+        self.assertEqual([it for it in os.listdir() if it.startswith("a.bt")], [])
 
 
 class Crew(unittest.TestCase):
@@ -355,7 +381,8 @@ class Merge(InFolder):
         self.refused(said, "merge", "1.snap", "2.snap", "-o", "b.bt")
         said = "1.snap: its region overlaps that of 1.snap (--rule says whose values stay)"
         self.refused(said, "merge", "1.snap", "1.snap", "-o", "b.bt")
-        self.done("merge", "1.snap", "2.snap", "--snapshot", "b.snap", "--allow-gaps")
+        words = "--snapshot", "b.snap", "--allow-gaps", "--allow-empty"
+        self.done("merge", "1.snap", "2.snap", *words)
         self.done("merge", "b.snap", "3.snap", "--snapshot", "c.snap", "--rule", "least")
         self.assertEqual(content_of("c.snap"), content_of("one.snap"))
 

@@ -12,7 +12,6 @@ import numpy as np
 from running import DATA, InFolder, save_map
 
 from octofix import clouds
-from octofix.tools import memory
 from octofix.tools.command import NO_THREAD
 
 PCD = (DATA / "corner.pcd").read_text()
@@ -161,6 +160,14 @@ class Files(InFolder):
         ran = self.done(*words, "--on-error", "skip", given=b"1 2 3\n", status=3)
         self.assertIn("skipped: none: No such file or directory", ran.said)
 
+    def test_a_bag_without_an_end(self):
+        """As a pipe that nobody writes to, or a device that has ever more."""
+        os.mkfifo("a.bag")
+        os.symlink("/dev/zero", "zeros")
+        for name, *words in (["a.bag"], ["zeros", "--format", "bag"]):
+            said = f"{name}: a ROS bag is read of a file, and not of a device or a pipe"
+            self.refused(said, "map", "--res", 1, name, *words, "-o", "a.bt")
+
     def test_forms_by_name(self):
         with open("a.bin", "wb") as file:
             file.write(bytes(17))
@@ -169,8 +176,8 @@ class Files(InFolder):
         content = (DATA / "two_nodes.graph").read_bytes()
         with open("a.graph", "wb") as file:
             file.write(content[:200])
-        said = "a.graph: it ends at byte 200 inside node 2 of 2"
-        self.refused(said, "map", "--res", 1, "a.graph", "-o", "a.bt")
+        said = "a.graph: it ends at byte 200 inside node 2 of 2; the map so far, of 1 scans, is in "
+        self.refused(said + "a.bt.partial", "map", "--res", 1, "a.graph", "-o", "a.bt")
         with open("a.graph", "wb") as file:
             file.write(content[:4])
         said = "a.graph: it ends at byte 4 before all nodes are read"
@@ -525,16 +532,3 @@ class Endless(InFolder):
         with mock.patch("octofix.tools.files._input", lambda _: Waiting(b"1 2 3\n")):
             said = "-: Resource temporarily unavailable"
             self.refused(said, "map", "--res", 1, "-", "-o", "a.bt")
-
-    def test_free_memory(self):
-        """Of the machine, and of a container that has less."""
-        with open("machine", "w") as file:
-            file.write("MemTotal:          9 kB\nMemAvailable:      5 kB\n")
-        places = mock.patch.multiple(memory, MACHINE="machine", CONTAINER="container")
-        for bound, wanted in (("max\n", 5120), ("4096\n", 4096), ("6000\n", 5120)):
-            with open("container", "w") as file:
-                file.write(bound)
-            with places:
-                self.assertEqual(memory.free_memory(), wanted)
-        with mock.patch.multiple(memory, MACHINE="none", CONTAINER="none"):
-            self.assertEqual(memory.free_memory(), sys.maxsize)

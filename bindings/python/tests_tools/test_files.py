@@ -10,9 +10,10 @@ import threading
 from unittest import mock
 
 import numpy as np
-from running import InFolder, files_of_at_most, save_map
+from running import FRONTS, OLD_MAP, InFolder, files_of_at_most, old, save_map
 
 from octofix import Map, _files
+from octofix.tools import mapping
 from octofix.tools.command import main
 from octofix.tools.yamltext import text_of
 
@@ -22,6 +23,7 @@ except ImportError:
     yaml = None
 
 CLOUD = b"2 0 0\n"
+BOX = "--box", 0, 0, 0, 1, 1, 1
 
 
 def content_of(name):
@@ -29,9 +31,10 @@ def content_of(name):
         return file.read()
 
 
-def put_file(name, content=b"old"):
+def put_file(name, content=None):
+    """Writes a file, or else an old one of the kind that its name says."""
     with open(name, "wb") as file:
-        file.write(content)
+        file.write(old(name) if content is None else content)
 
 
 class Maps(InFolder):
@@ -102,7 +105,7 @@ class Written(Maps):
         put_file("a.bt")
         with mock.patch("os.access", return_value=False):
             self.fails("a.bt: Permission denied", "-o", "a.bt")
-        self.assertEqual(content_of("a.bt"), b"old")
+        self.assertEqual(content_of("a.bt"), OLD_MAP)
 
     def test_a_longest_name(self):
         name = "m" * 252 + ".bt"
@@ -128,16 +131,15 @@ class Written(Maps):
         put_file("a.bt")
         with files_of_at_most(len(self.wanted) // 2):
             self.fails("a.bt: File too large", "-o", "a.bt", "--script", "a.txt")
-        self.assertEqual(content_of("a.bt"), b"old")
+        self.assertEqual(content_of("a.bt"), OLD_MAP)
 
     def test_no_room_of_every_command(self):
         """What stood there stands, and nothing else is left."""
         save_map("m.bt", 0.5, {(0, 0, 0): 9})
-        box = "--box", 0, 0, 0, 1, 1, 1
         for name, *words in (
             ("a.bt", "merge"), ("a.snap", "merge", "--snapshot"), ("a.pgm", "grid"),
             ("a.png", "view"), ("a.png", "view", "--oblique"), ("a.png", "view", "--slice", 0),
-            ("a.html", "view"), ("a.ply", "points"), ("a.csv", "points"), ("a.bt", "crop", *box),
+            ("a.html", "view"), ("a.ply", "points"), ("a.csv", "points"), ("a.bt", "crop", *BOX),
             ("a.bt", "shift", "--voxels", 1, 0, 0), ("a.bt", "coarsen", "--depth", 3),
         ):  # fmt: skip
             option = [] if words[-1] == "--snapshot" else ["-o"]
@@ -146,7 +148,31 @@ class Written(Maps):
             said = f"{name}: File too large"
             with files_of_at_most(5):
                 self.refused(said, words[0], "m.bt", *words[1:], *option, name)
-            self.assertEqual((content_of(name), set(os.listdir())), (b"old", before))
+            self.assertEqual((content_of(name), set(os.listdir())), (old(name), before))
+
+    def test_a_file_that_is_mounted(self):
+        """As with `docker -v file`: written in place, and told in a line."""
+        put_file("inside.bt")
+        put_file("a.bt")
+        if subprocess.run(["mount", "--bind", "inside.bt", "a.bt"], capture_output=True).returncode:
+            self.skipTest("nothing may be mounted here")
+        try:
+            ran = self.map("-o", "a.bt")
+        finally:
+            subprocess.run(["umount", "a.bt"], check=True)
+        said = "a.bt: it is mounted by itself, so it was written in place and not at once: what ends "
+        said += "the machine meanwhile leaves a part of it"
+        self.assertEqual(ran.said, f"octofix: {said}\n")
+        self.assertEqual((content_of("inside.bt"), content_of("a.bt")), (self.wanted, OLD_MAP))
+
+    def test_a_folder_that_takes_no_file(self):
+        put_file("a.bt")
+        error = PermissionError(errno.EACCES, "Permission denied")
+        with mock.patch.object(_files.Output, "_open_beside", side_effect=error):
+            ran = self.map("-o", "a.bt")
+            self.fails("new.bt: Permission denied", "-o", "new.bt")
+        self.assertIn("a.bt: its folder takes no new file, so it was written in place", ran.said)
+        self.assertEqual(content_of("a.bt"), self.wanted)
 
     def test_all_or_none(self):
         """The second file can't be put in its place: the first one is as it was."""
@@ -158,12 +184,11 @@ class Written(Maps):
             replace(source, target)
 
         with mock.patch("os.replace", refuse):
-            self.fails("b.snapshot: Operation not permitted", "-o", "b.bt", "--snapshot",
-                       "b.snapshot")  # fmt: skip
+            words = "-o", "b.bt", "--snapshot", "b.snapshot", "--on-error", "stop"
+            self.fails("b.snapshot: Operation not permitted", *words)
             put_file("b.bt")
-            self.fails("b.snapshot: Operation not permitted", "-o", "b.bt", "--snapshot",
-                       "b.snapshot")  # fmt: skip
-        self.assertEqual(content_of("b.bt"), b"old")
+            self.fails("b.snapshot: Operation not permitted", *words)
+        self.assertEqual(content_of("b.bt"), OLD_MAP)
 
     def test_no_room_for_points(self):
         """Of a whole map that is free there are 2^48; none is written."""
@@ -194,11 +219,10 @@ class Clashes(Maps):
 
     def test_of_every_command(self):
         said = "a.bt: it would be written over the input a.bt"
-        box = "--box", 0, 0, 0, 1, 1, 1
         for name in ("a.bt", "a.png"):
             put_file(name, self.wanted)
         for words in (
-            ("crop", *box), ("shift", "--voxels", 1, 0, 0), ("coarsen", "--depth", 3),
+            ("crop", *BOX), ("shift", "--voxels", 1, 0, 0), ("coarsen", "--depth", 3),
             ("points", "--format", "xyz"),
         ):  # fmt: skip
             self.refused(said, *words, "a.bt", "-o", "a.bt")
@@ -213,36 +237,142 @@ class Clashes(Maps):
         said = "- stands for two inputs, and the standard input can be read once"
         self.refused(said, "compare", "-", "-", given=self.wanted)
 
-    def test_a_forgotten_name(self):
-        """`-o FILE *.xyz` without FILE."""
-        put_file("b.xyz", CLOUD)
-        put_file("c.npy", b"\x93NUMPY")
-        said = "it stands there and seems to be a cloud (is FILE forgotten?)"
-        self.fails(f"b.xyz: {said}", "-o", "b.xyz")
-        self.fails(f"c.npy: {said}", "--snapshot", "c.npy")
-        self.map("--script", "new.xyz")
-        self.map("--script", "new.xyz")
-
     def test_a_forgotten_name_of_maps(self):
-        """`-o FILE *.bt` without FILE; what stands behind the maps, or isn't beside them in their
-        order, is written over."""
+        """`-o FILE *.bt` without FILE, with endings or without; what stands behind the maps, or
+        isn't beside them in their order, is written over."""
         os.mkdir("out")
-        for name in ("1.bt", "2.bt", "3.bt", "b.bt", "out/1.bt", "B.snap"):
+        for name in ("1.bt", "2.bt", "3.bt", "b.bt", "out/1.bt", "B.snap", "p_1", "p_2"):
             with Map(0.5) as world:
                 world.set([[0.2, 0.2, 0.2]], 9)
                 (world.snapshot if name.endswith("snap") else world.save)(name)
         said = "it stands there and seems to be one of the maps (is FILE forgotten?); behind the "
-        said += "maps, the option writes over it"
-        self.refused(f"1.bt: {said}", "merge", "-o", "1.bt", "2.bt", "3.bt")
-        self.refused(f"1.bt: {said}", "merge", "--rule", "first", "-o", "1.bt", "2.bt")
+        said += "maps, or with --force, it is replaced"
         put_file("a_old.snap")
-        self.refused(f"a_old.snap: {said}", "merge", "--snapshot", "a_old.snap", "B.snap", "1.bt")
+        for words in (
+            ["merge", "-o", "1.bt", "2.bt", "3.bt"], ["crop", *BOX, "-o", "1.bt", "2.bt"],
+            ["merge", "--rule", "first", "-o", "1.bt", "2.bt"],
+            ["shift", "--voxels", 1, 0, 0, "-o", "1.bt", "2.bt"],
+            ["coarsen", "--depth", 3, "-o", "1.bt", "2.bt"],
+            ["merge", "--snapshot", "a_old.snap", "B.snap", "1.bt"], ["merge", "-o", "p_1", "p_2"],
+        ):  # fmt: skip
+            name = next(it for it in words if it in ("1.bt", "a_old.snap", "p_1"))
+            before = content_of(name)
+            self.refused(f"{name}: {said}", *words, status=2)
+            self.assertEqual(content_of(name), before)
+        self.done("merge", "-o", "p_1", "p_2", "--force")
+        self.done("crop", *BOX, "-o", "1.bt", "2.bt", "--force")
         for words in (
             ["2.bt", "3.bt", "-o", "1.bt"], ["-o", "b.bt", "2.bt", "3.bt"],
             ["-o", "out/1.bt", "2.bt", "3.bt"], ["-o", "0.bt", "2.bt", "3.bt"],
             ["--snapshot", "0.snap", "2.bt"], ["-o", "/dev/null", "2.bt"],
         ):  # fmt: skip
             self.done("merge", *words, "--rule", "greatest")
+
+
+class Replaced(Maps):
+    """What stands there is replaced where it is of the kind that is written, or empty."""
+
+    WRITES = {
+        "a.bt": ("map", "a.xyz", "--res", 0.1), "b.bt": ("merge", "wanted.bt"),
+        "c.bt": ("crop", "wanted.bt", "--box", 0, 0, 0, 3, 3, 3),
+        "d.bt": ("shift", "wanted.bt", "--voxels", 1, 0, 0),
+        "e.bt": ("coarsen", "wanted.bt", "--depth", 3),
+        "f.snap": ("map", "a.xyz", "--res", 0.1), "g.snap": ("merge", "wanted.bt"),
+        "h.txt": ("map", "a.xyz", "--res", 0.1),
+        "i.ply": ("points", "wanted.bt"), "j.pcd": ("points", "wanted.bt"),
+        "k.xyz": ("points", "wanted.bt"), "l.csv": ("points", "wanted.bt"),
+        "m.npy": ("points", "wanted.bt"), "n.pgm": ("grid", "wanted.bt"),
+        "o.png": ("grid", "wanted.bt"), "p.png": ("view", "wanted.bt"),
+        "q.png": ("view", "wanted.bt", "--oblique"), "r.html": ("view", "wanted.bt"),
+        "s.png": ("view", "wanted.bt", "--slice", 0),
+    }  # fmt: skip
+    OPTIONS = {"snap": "--snapshot", "txt": "--script"}
+    SAID = "octofix: {}: what stands there is not "
+
+    def write(self, name, *more, status=0):
+        option = self.OPTIONS.get(name.rpartition(".")[2], "-o")
+        return self.done(*self.WRITES[name], option, name, *more, status=status)
+
+    def test_by_the_same_kind(self):
+        for name in self.WRITES:
+            for content in (b"", old(name)):
+                put_file(name, content)
+                self.write(name)
+                self.assertNotIn(content_of(name), (b"", old(name)), name)
+            before = content_of(name)
+            self.write(name)
+            self.assertEqual(content_of(name), before)
+
+    def test_nothing_else(self):
+        """Each kind by each other one, and by text: one line and status 2, nothing is read, and all
+        stands as it stood; with --force it is replaced."""
+        kinds = {**FRONTS, "jpg": b"\xff\xd8\xff", "md": b"# My notes\n", "py": b"scan = 4\n"}
+        endings = {name.rpartition(".")[2]: name for name in self.WRITES}
+        for ending, name in endings.items():
+            for other in kinds.keys() - {ending}:
+                put_file(name, kinds[other])
+                before = set(os.listdir())
+                ran = self.write(name, status=2)
+                self.assertTrue(ran.said.startswith(self.SAID.format(name)), (other, ran.said))
+                self.assertEqual(ran.said.count("\n"), 1)
+                self.assertEqual((content_of(name), set(os.listdir())), (kinds[other], before))
+            self.write(name, "--force")
+            self.assertTrue(content_of(name).startswith(FRONTS[ending][:2]) or ending == "xyz")
+
+    def test_told_before_the_work(self):
+        """No cloud and no map is read before."""
+        put_file("notes.bt", b"mine")
+        for words in (
+            ["map", "a.xyz", "--res", 0.1], ["crop", "absent.bt", *BOX], ["merge", "gone"],
+            ["shift", "absent.bt", "--voxels", 1, 0, 0],
+        ):  # fmt: skip
+            ran = self.done(*words, "-o", "notes.bt", status=2)
+            self.assertIn("what stands there is not a .bt file", ran.said)
+
+    def test_clouds_without_endings(self):
+        """`-o scan*`: the first of them would be the map."""
+        for name in ("scan000", "scan001"):
+            put_file(name, b"2 0 0\n")
+        said = "scan000: what stands there is not a .bt file, so it isn't replaced by one "
+        said += "(is FILE forgotten? --force replaces it)"
+        words = "map", "--res", 0.2, "-o", "scan000", "scan001"
+        self.refused(said, *words, status=2)
+        self.assertEqual(content_of("scan000"), b"2 0 0\n")
+
+    def test_poses_and_clouds_of_the_same_ending(self):
+        """A line of eight numbers is no XYZ of points, and a table no CSV of points."""
+        for name, content in (
+            ("k.xyz", b"1 0 0 0 0 0 0 1\n"), ("k.xyz", b"1 2\n"),
+            ("l.csv", b"x,y,z,i\n1,2,3,4\n"), ("l.csv", b"name,x\n"),
+        ):  # fmt: skip
+            put_file(name, content)
+            self.write(name, status=2)
+            self.assertEqual(content_of(name), content)
+
+    def test_what_came_meanwhile(self):
+        """Somebody else writes another file to that place while the tool works."""
+        put_file("wait.xyz", CLOUD)
+        begun = mapping.do_scan
+
+        def scan(*words):
+            put_file("a.bt", b"theirs")
+            begun(*words)
+
+        with mock.patch("octofix.tools.mapping.do_scan", scan):
+            ran = self.done("map", "--res", 0.1, "wait.xyz", "-o", "a.bt", status=2)
+        said = "--force replaces it); the map so far, of 1 scans, is in a.bt.partial"
+        self.assertIn(said, ran.said)
+        self.assertEqual(content_of("a.bt"), b"theirs")
+        self.assertEqual(content_of("a.bt.partial"), self.wanted)
+
+    def test_the_output_of_the_shell(self):
+        """What `>> notes` appends to is written to as it is."""
+        call = [sys.executable, "-m", "octofix", "crop", "wanted.bt", "--box", *"000999"]
+        for name in ("-", "/dev/stdout"):
+            put_file("notes", b"before ")
+            with open("notes", "ab") as file:
+                subprocess.run([*call, "-o", name], stdout=file, check=True)
+            self.assertEqual(content_of("notes")[:16], b"before # Octomap")
 
 
 class Nothing(Maps):
@@ -258,7 +388,7 @@ class Nothing(Maps):
 
     def nothing(self, said, *words):
         self.refused(said, "map", "--res", "1", *words, "-o", "a.bt", "--snapshot", "b")
-        self.assertEqual(content_of("a.bt"), b"old")
+        self.assertEqual(content_of("a.bt"), OLD_MAP)
         self.assertFalse(os.path.exists("b"))
 
     def test_nothing_is_written(self):
@@ -308,10 +438,11 @@ class Grids(InFolder):
     def test_a_yaml_of_something_else(self):
         """It has a name that nobody gave, so it is lost in no run."""
         put_file("robot.yaml", b"wheels: 4\n")
-        said = "robot.yaml: it stands there, and is no YAML of a map (another -o)"
-        self.refused(said, "grid", "a.bt", "-o", "robot.pgm")
+        said = "robot.yaml: what stands there is not the YAML of a map, so it isn't replaced by "
+        said += "one (is FILE forgotten? --force replaces it)"
+        self.refused(said, "grid", "a.bt", "-o", "robot.pgm", status=2)
         self.assertEqual(content_of("robot.yaml"), b"wheels: 4\n")
-        for stands in (b"\n", b"# of ROS\nimage: old.pgm\n"):
+        for stands in (b"", b"# of ROS\nimage: old.pgm\n"):
             put_file("floor.yaml", stands)
             self.done("grid", "a.bt", "-o", "floor.pgm")
             self.assertIn(b"image: floor.pgm\n", content_of("floor.yaml"))

@@ -14,7 +14,7 @@ import zipfile
 from unittest import mock
 
 import numpy as np
-from running import DATA, InFolder
+from running import DATA, OLD_MAP, InFolder
 
 from octofix import clouds
 from octofix.tools.kinds import UTF_16
@@ -38,12 +38,12 @@ class Inputs(InFolder):
     def is_refused(self, said, content, *words, name="bad", status=1):
         """A cloud of this content is refused so, and the map that stood is as it was."""
         self.write(name, content)
-        self.write("old.bt", b"old")
+        self.write("old.bt", OLD_MAP)
         words = ("map", "--res", 1, name, *words, "-o", "old.bt", "--quiet")
         ran = self.done(*words, status=status)
         self.assertEqual(ran.said, f"octofix: {name}{said}\n")
         with open("old.bt", "rb") as file:
-            self.assertEqual(file.read(), b"old")
+            self.assertEqual(file.read(), OLD_MAP)
 
     def points(self, content, *words):
         """The points of a cloud, as a script has them."""

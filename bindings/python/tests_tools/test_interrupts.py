@@ -9,8 +9,9 @@ import time
 import unittest
 from unittest import mock
 
-from running import InFolder
+from running import OLD_MAP, InFolder
 
+CLOUD = b"2 0 0\n"
 SIGNALS = (signal.SIGINT, signal.SIGTERM, signal.SIGHUP)
 # How a process ends by Ctrl-C, of which a shell makes the status 130.
 BY_CTRL_C = -signal.SIGINT
@@ -69,9 +70,9 @@ def hung_up():
 class Processes(InFolder):
     def setUp(self):
         super().setUp()
-        for name in ("a.bt", "a.xyz", "b.xyz"):
-            with open(name, "w") as file:
-                file.write("2 0 0\n")
+        for name, content in (("a.bt", OLD_MAP), ("a.xyz", CLOUD), ("b.xyz", CLOUD)):
+            with open(name, "wb") as file:
+                file.write(content)
         self.done("map", "--res", "0.1", "a.xyz", "-o", "wanted.bt")
         self.before = set(os.listdir())
 
@@ -110,7 +111,7 @@ class Reading(Processes):
             said = f"octofix: stopped by {name} before the first scan: nothing is written\n"
             self.ends(run, said, BY_CTRL_C if it == signal.SIGINT else 130)
             os.close(held)
-            self.assertEqual(content_of("a.bt"), b"2 0 0\n")
+            self.assertEqual(content_of("a.bt"), OLD_MAP)
 
     def test_between_scans(self):
         self.pipe()
@@ -128,7 +129,7 @@ class Reading(Processes):
         run = self.map("wait.xyz", before=hung_up)
         held = self.opened()
         run.send_signal(signal.SIGHUP)
-        os.write(held, b"2 0 0\n")
+        os.write(held, CLOUD)
         os.close(held)
         self.ends(run, "", status=0)
         self.assertEqual(content_of("a.bt"), content_of("wanted.bt"))
@@ -157,7 +158,7 @@ class Reading(Processes):
             with open("numpy/__init__.py", "w") as file:
                 file.write(INTERRUPTING % list(map(int, signals)))
             self.ends(self.map("a.xyz"), said, status)
-            self.assertEqual(content_of("a.bt"), b"2 0 0\n")
+            self.assertEqual(content_of("a.bt"), OLD_MAP)
 
 
     def test_twice_at_the_end(self):
@@ -181,6 +182,15 @@ class Start(Processes):
         for words in (["-m", "octofix"], ["-c", "from octofix.__main__ import run; run()"]):
             self.ends(self.start(*words, "info", "a.bt"), "", BY_CTRL_C)
 
+    def test_before_the_command_is_found(self):
+        """`python3 -m octofix` is quiet as soon as Python comes to the package; who imports it
+        keeps his own handler."""
+        work = "import sys; sys.argv = {}; import octofix, signal; print(repr(signal.getsignal(2)))"
+        for words, wanted in ((["-m"], "SIG_DFL"), (["-c"], "default_int_handler")):
+            run = self.start("-c", work.format(words), "-m", "octofix")
+            came, _ = run.communicate(timeout=30)
+            self.assertIn(wanted, came.decode())
+
     def test_without_the_library(self):
         """One line, and no map."""
         with mock.patch.dict(os.environ, OCTOFIX_LIBRARY="/nowhere.so"):
@@ -188,7 +198,7 @@ class Start(Processes):
         _, said = run.communicate(timeout=30)
         wanted = rb"^octofix: the library [^\n]* can't be loaded[^\n]*/nowhere.so.*\n$"
         self.assertRegex(said, wanted)
-        self.assertEqual((run.returncode, content_of("a.bt")), (4, b"2 0 0\n"))
+        self.assertEqual((run.returncode, content_of("a.bt")), (4, OLD_MAP))
 
     def test_without_docstrings(self):
         """As Python is to optimize."""
@@ -240,7 +250,7 @@ class Scanning(Processes):
         run.send_signal(signal.SIGINT)
         self.ends(run, "octofix: ended at once: nothing is written\n")
         self.assertLess(time.monotonic() - began, 10)
-        self.assertEqual(content_of("a.bt"), b"2 0 0\n")
+        self.assertEqual(content_of("a.bt"), OLD_MAP)
 
     def test_ctrl_c_twice(self):
         run = self.slow_map(60)

@@ -171,8 +171,8 @@ class Skipped(InFolder):
 
     def test_stop(self):
         words = ["map", "--res", "1", DATA / "corner.xyz", "bad.xyz", "-o", "a.bt"]
-        self.refused("bad.xyz:1:5: 'three' is no number", *words)
-        self.assertFalse(os.path.exists("a.bt"))
+        self.refused("bad.xyz:1:5: 'three' is no number", *words, "--on-error", "stop")
+        self.assertEqual(os.listdir(), ["bad.xyz"])
 
     def test_skip(self):
         clouds = ["bad.xyz", DATA / "corner.xyz", "none.xyz"]

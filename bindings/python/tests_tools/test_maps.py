@@ -1,11 +1,75 @@
 """Maps that are compared, cut, moved, made coarser, and checked against scans."""
 
 import json
+from unittest import mock
 
 import numpy as np
-from running import DATA, InFolder, save_map
+from running import DATA, OLD_MAP, InFolder, save_map
 
 from octofix import Map
+from octofix.tools.leaves import Leaves
+
+
+class LargeBlocks(InFolder):
+    """A map that is free throughout but for a block of 64 m that is occupied, and boxes that lie
+    along no blocks."""
+
+    def setUp(self):
+        super().setUp()
+        with Map(0.05) as world:
+            world.edit_box((-1638.4,) * 3, (1638.39,) * 3, 1, -400)
+            world.edit_box((0, 0, 0), (51.19, 51.19, 51.19), 1, 850)
+            world.save("free.bt")
+
+    def box(self, half):
+        return ["--box", *[-half] * 3, *[half] * 3]
+
+    def test_crop(self):
+        """Exact to the voxel, and each block is edited once."""
+        with mock.patch.object(Leaves, "within", side_effect=AssertionError):
+            self.done("crop", "free.bt", *self.box(1.01), "-o", "a.bt")
+        with Map.from_bt("a.bt") as world:
+            low, high = world.bounds()
+            self.assertEqual((low, high), ((32768 - 21,) * 3, (32768 + 20,) * 3))
+            counts = [len(world.voxels(it)) for it in ("occupied", "free")]
+        self.assertEqual(counts, [21**3, 42**3 - 21**3])
+
+    def test_crop_of_too_many_parts(self):
+        """The box is the least one of blocks that are large enough around what was asked."""
+        with mock.patch("octofix.tools.commands.crop.MOST_PARTS", 400):
+            ran = self.done("crop", "free.bt", *self.box(1.01), "-o", "a.bt")
+        said = "the box ends with blocks of depth 14: it cuts off too many parts of large ones"
+        self.assertEqual(ran.said, f"octofix: {said}\n")
+        with Map.from_bt("a.bt") as world:
+            self.assertEqual(tuple(world.bounds()), ((32768 - 24,) * 3, (32768 + 23,) * 3))
+
+    def test_boxes_of_any_size(self):
+        """No more parts are made than may be, however large the box is."""
+        made, children = [], Leaves.children
+
+        def counted(leaves):
+            made.append(len(leaves))
+            return children(leaves)
+
+        with mock.patch.object(Leaves, "children", counted), \
+             mock.patch("octofix.tools.commands.view.MOST_PARTS", 1 << 12), \
+             mock.patch("octofix.tools.commands.view.MOST_VOXELS", 1 << 12), \
+             mock.patch("octofix.tools.planes.MOST_COLUMNS", 1 << 40):  # fmt: skip
+            for half in (20, 50, 200, 1000):
+                for words in (["-o", "a.html"], ["--oblique", "-o", "a.png"]):
+                    self.done("view", "free.bt", *words, *self.box(half + 0.01), "--force")
+        self.assertLess(max(made), 1 << 12)
+
+    def test_from_above(self):
+        """The occupied quarter is coloured, and the others are pale; no block is cut."""
+        with mock.patch.object(Leaves, "within", side_effect=AssertionError):
+            self.done("view", "free.bt", *self.box(20), "-o", "a.png", "--width", 16)
+        with __import__("PIL.Image").Image.open("a.png") as image:
+            pixels = np.asarray(image)
+        self.assertEqual(pixels.shape, (801, 801, 3))
+        self.assertEqual(pixels[0, 800].tolist(), pixels[400, 400].tolist())
+        for part in (pixels[401:], pixels[:401, :400]):
+            self.assertTrue((part == (232, 236, 240)).all())
 
 
 class Compare(InFolder):
@@ -81,9 +145,58 @@ class Edited(InFolder):
         kept = {at: it for at, it in self.voxels().items() if at[0] > 0 and at[2] < 3}
         save_map("wanted.bt", 0.5, kept)
         self.agrees("crop", "a.bt", "--box", 0.5, -7, 0, 9, 9, 1.4)
-        ran = self.done("crop", "a.bt", "--box", 50, 50, 50, 60, 60, 60, "-o", "none.bt")
-        said = "octofix: nothing is known there: the map that is written is empty\n"
-        self.assertEqual(ran.said, said)
+
+    def test_nothing(self):
+        """The old map stands, but with --allow-empty."""
+        save_map("empty.bt", 0.5, {})
+        box = "--box", 50, 50, 50, 60, 60, 60
+        said = "nothing is known there, so nothing is written (--allow-empty writes an empty map)"
+        for words in (
+            ["crop", "a.bt", *box], ["shift", "empty.bt", "--by", 1, 0, 0],
+            ["coarsen", "empty.bt", "--depth", 14], ["merge", "empty.bt", "empty.bt"],
+        ):  # fmt: skip
+            with open("none.bt", "wb") as file:
+                file.write(OLD_MAP)
+            self.refused(said, *words, "-o", "none.bt")
+            with open("none.bt", "rb") as file:
+                self.assertEqual(file.read(), OLD_MAP)
+            self.done(*words, "-o", "none.bt", "--allow-empty")
+            with open("none.bt", "rb") as came, open("empty.bt", "rb") as wanted:
+                self.assertEqual(came.read(), wanted.read())
+
+    def test_values(self):
+        """Those of a snapshot stay, with its log-odds; of a .bt file they are the bounds."""
+        values = {(0, 0, 0): 700, (1, 0, 0): -90, (1, 1, 0): 20, (8, 8, 8): 333}
+        with Map(0.5, hit=77, max=1234, threshold=5) as world:
+            for keys, value in values.items():
+                world.set([[(it + 0.5) / 2 for it in keys]], value)
+            world.limit((0, 0, 0), (1, 1, 1))
+            world.snapshot("v.snap")
+        wanted = {
+            ("crop", "--box", 0.5, 0, 0, 9, 9, 9): {(1, 0, 0): -90, (1, 1, 0): 20, (8, 8, 8): 333},
+            ("shift", "--voxels", -2, 1, 0): {(x - 2, y + 1, z): it
+                                              for (x, y, z), it in values.items()},
+            ("coarsen", "--depth", 15): {**{(x, y, z): 700 for x in (0, 1) for y in (0, 1)
+                                            for z in (0, 1)},
+                                         **{(x, y, z): 333 for x in (8, 9) for y in (8, 9)
+                                            for z in (8, 9)}},
+        }  # fmt: skip
+        for (name, *words), kept in wanted.items():
+            self.done(name, "v.snap", *words, "--snapshot", "w.snap", "-o", "w.bt")
+            with Map.from_snapshot("w.snap") as world:
+                self.assertEqual((world.odds.hit, world.odds.max, world.odds.threshold),
+                                 (77, 1234, 5))  # fmt: skip
+                self.assertIsNone(world.window)
+                keys = np.array(list(kept))
+                self.assertEqual(world.get((keys + 0.5) / 2).tolist(), list(kept.values()))
+                self.assertEqual(len(world.voxels("known")), len(kept))
+                classes = world.to_bt()
+            with open("w.bt", "rb") as file:
+                self.assertEqual(file.read(), classes)
+        save_map("c.bt", 0.5, {(0, 0, 0): 9, (1, 0, 0): -9})
+        self.done("shift", "c.bt", "--voxels", 1, 0, 0, "--snapshot", "w.snap")
+        with Map.from_snapshot("w.snap") as world:
+            self.assertEqual(world.get([[0.6, 0, 0], [1.1, 0, 0]]).tolist(), [3500, -2000])
 
     def test_shift(self):
         moved = {(x - 3, y + 1, z): it for (x, y, z), it in self.voxels().items()}

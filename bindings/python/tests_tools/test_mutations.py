@@ -10,7 +10,7 @@ import unittest
 import warnings
 
 import mutations
-from running import InFolder, octofix
+from running import OLD_MAP, InFolder, octofix
 
 # More are tried by tests/tools_mutations.py.
 MANY = int(os.environ.get("OCTOFIX_MUTATIONS", "500"))
@@ -60,7 +60,7 @@ class Mutations(InFolder):
     def run_on(self, sample, content):
         for name in os.listdir():
             os.unlink(name)
-        for name, it in ((sample.name, content), ("out", b"old")):
+        for name, it in ((sample.name, content), ("out", OLD_MAP)):
             with open(name, "wb") as file:
                 file.write(it)
         if "rosbag" in sys.modules:
@@ -74,8 +74,9 @@ class Mutations(InFolder):
 
     def judge(self, sample, ran):
         with open("out", "rb") as file:
-            is_old = file.read() == b"old"
-        self.assertEqual(sorted(os.listdir()), sorted([sample.name, "out"]))
+            is_old = file.read() == OLD_MAP
+        kept = ["out.partial"] * ("; the map so far, of " in ran.said)
+        self.assertEqual(sorted(os.listdir()), sorted([sample.name, "out", *kept]))
         self.assertIn(ran.status, (0, 1, 3), ran.said)
         lines = [it for it in ran.said.splitlines() if not re.search(BESIDE, it)]
         self.assertEqual((is_old, len(lines)), (ran.status == 1,) * 2, ran.said)

@@ -142,6 +142,7 @@ class Order(InFolder):
         """What a scan log has is counted when it is read."""
         said = "poses: it has 3 poses for 2 clouds (--by-time takes poses by their times)"
         words = [DATA / "two_nodes.log", "--poses", "poses", "-o", "a.bt"]
+        said += "; the map so far, of 2 scans, is in a.bt.partial"
         self.refused(said, "map", "--res", 1, *words)
 
 

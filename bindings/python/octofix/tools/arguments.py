@@ -38,6 +38,10 @@ OTHERS = {ending: kind for kind, endings in OTHERS.items() for ending in endings
 AXES = {"camera": CAMERA, "none": IDENTITY}
 
 
+# What may be done with a cloud that can't be used.
+STOP_OR_SKIP = {"stop": "ends the run", "skip": "leaves it out"}
+
+
 def classes_output(word):
     """The name of a .bt file that is written; not of a snapshot, whose values it would lack."""
     return _named(word, (".bt",), "a .bt file, which has classes alone,")
@@ -149,8 +153,9 @@ def turn(word):
         raise argparse.ArgumentTypeError(str(why)) from None
 
 
-def add_scans(parser, is_optional=False):
-    """The options of how clouds are read and placed; optional are the clouds."""
+def add_scans(parser, on_error=STOP_OR_SKIP, is_optional=False):
+    """The options of how clouds are read and placed, and what may be done with a fault of one, of
+    which the first is done; optional are the clouds."""
     clouds = parser.add_argument(
         "clouds", nargs="+", type=Input, metavar="CLOUD", help="files; - is the input"
     )
@@ -186,11 +191,11 @@ def add_scans(parser, is_optional=False):
     form.add_argument("--range", type=length, metavar="M", help="cut beams that are longer")
     form.add_argument("--voxel", type=length, metavar="M", help="one point a voxel of this edge")
     form.add_argument(
-        "--on-error",
-        choices=["stop", "skip"],
-        default="stop",
-        help="what is done with a cloud or a pose that can't be used (stop)",
-    )
+        "--on-error", choices=[*on_error], default=next(iter(on_error)),
+        help="with a cloud or a pose that can't be used "
+        + "; ".join(f"'{it}' {said}" for it, said in on_error.items())
+        + f" ({next(iter(on_error))})",
+    )  # fmt: skip
     parser.add_argument("--quiet", action="store_true", help="say faults alone, show no bar")
     _add_poses(parser.add_argument_group("where the sensor stood"))
     bags = parser.add_argument_group("ROS 1 bags")
@@ -272,6 +277,29 @@ def add_map(parser, name="map", is_required=True):
 
 def add_output(parser, said="- is the output", is_required=True, of=Output):
     parser.add_argument("-o", "--output", type=of, required=is_required, metavar="FILE", help=said)
+    add_force(parser)
+
+
+def add_map_outputs(parser):
+    """The options of where a map is written."""
+    parser.add_argument(
+        "-o", "--output", type=classes_output, metavar="FILE",
+        help="the .bt file; - is the output",
+    )  # fmt: skip
+    parser.add_argument(
+        "--snapshot", type=values_output, metavar="FILE",
+        help="the map with its values; - is the output",
+    )  # fmt: skip
+    add_force(parser)
+    parser.add_argument(
+        "--allow-empty", action="store_true", help="write a map in which nothing is known, too"
+    )
+
+
+def add_force(parser):
+    parser.add_argument(
+        "--force", action="store_true", help="replace what stands there, of whatever kind it is"
+    )
 
 
 def add_box(parser):

@@ -1,6 +1,5 @@
 """Outputs that would be written over an input or over each other."""
 
-import contextlib
 import os
 import re
 import stat
@@ -8,33 +7,17 @@ import stat
 from octofix import _files
 
 from .arguments import Input, Output
-from .errors import Unusable
+from .errors import Misused, Unusable
 
 
-# How what the tools write begins, and the endings of clouds.
-MADE = (b"# Octomap OcTree", b"OCTSNAP", b"scan ", b"hit ", b"miss ", b"box ")
-CLOUDS = {"pcd", "ply", "npy", "bin", "graph", "bag", "log", "xyz", "csv", "las", "laz"}
-
-
-def refuse_clouds(outputs, clouds):
-    """Refuses to write over a file that was made by no tool and has an ending of clouds: where
-    somebody forgets FILE in `-o FILE *.npy`, it is the first of them."""
-    endings = CLOUDS | set(map(_ending, clouds))
-    for name in outputs:
-        with contextlib.suppress(OSError):
-            if _ending(name) in endings and _is_foreign(name):
-                raise Unusable("it stands there and seems to be a cloud (is FILE forgotten?)", name)
-
-
-def refuse_first(options, names):
-    """Refuses to write over a file that stands right before these in the order of their names, as
-    the first one of them does where somebody forgets FILE in `-o FILE *.bt`."""
-    first = names[0]
-    for it in options.foremost:
+def refuse_first(options, first):
+    """Refuses to write over a map that stands right before the first of those that are read, in the
+    order of their names, as it does where somebody forgets FILE in `-o FILE *.bt`."""
+    for it in () if options.force else options.foremost:
         name = getattr(options, it)
         if isinstance(name, Output) and os.path.isfile(name) and _could_begin(name, first):
             said = "it stands there and seems to be one of the maps (is FILE forgotten?)"
-            raise Unusable(f"{said}; behind the maps, the option writes over it", name)
+            raise Misused(f"{said}; behind the maps, or with --force, it is replaced", name)
 
 
 def _could_begin(name, first):
@@ -44,15 +27,7 @@ def _could_begin(name, first):
 
 
 def _ending(name):
-    return re.sub(r"\.gz$", "", name.lower()).rpartition(".")[2]
-
-
-def _is_foreign(name):
-    if not os.path.isfile(name):
-        return False
-    with open(name, "rb") as file:
-        head = file.read(16)
-    return bool(head) and not head.startswith(MADE)
+    return os.path.splitext(re.sub(r"\.gz$", "", name.lower()))[1]
 
 
 def refuse_clashes(options, *more):

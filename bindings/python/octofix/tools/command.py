@@ -63,6 +63,7 @@ def add_command(below, name, module):
     module.arguments(each)
     run = getattr(module, "run", None)
     each.set_defaults(run=run, repeated=[], foremost=[], is_behind=False)
+    each.set_defaults(outputs=getattr(module, "outputs", None))
 
 
 def run():
@@ -138,12 +139,16 @@ def _run(words):
 def _work(options):
     """Does what the options ask for, and answers the exit status."""
     from .clashes import refuse_clashes
+    from .standing import refuse_others
 
     INTERRUPTS.take()
     if not getattr(options, "quiet", False):
         for it in options.repeated:
             say(f"{it} stands more than once, and the last one counts")
     refuse_clashes(options)
+    if options.outputs:
+        # (before all the work)
+        refuse_others(options.outputs(options), options.force)
     return options.run(options)
 
 

@@ -19,9 +19,11 @@ class Crew:
         # How many items all threads have done, and how many each.
         self.gone, self.done = 0, [0] * len(tasks)
         self.fault, self.is_over = None, False
+        self.threads = []
         for number, task in enumerate(tasks):
             how = {"name": f"crew {number}", "daemon": True}
-            threading.Thread(target=self._work, args=(number, task), **how).start()
+            self.threads.append(threading.Thread(target=self._work, args=(number, task), **how))
+            self.threads[-1].start()
 
     def put(self, item, size):
         """Gives an item of this size to the threads, once there is room for it."""
@@ -60,6 +62,12 @@ class Crew:
         with self.moved:
             self.fault, self.is_over = self.fault or fault, True
             self.moved.notify_all()
+
+    def end(self):
+        """Ends all threads, and waits for them."""
+        self.stop()
+        for it in self.threads:
+            it.join()
 
     def _wait(self, has_come):
         self.moved.wait_for(lambda: self.is_over or has_come())

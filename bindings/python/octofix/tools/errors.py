@@ -32,6 +32,12 @@ class Unusable(Exception):
         return ":".join(map(str, place)) + ": " * bool(place) + self.why
 
 
+class Misused(Unusable):
+    """What the words ask for, and would lose what stands there."""
+
+    status = USAGE
+
+
 class Torn(Unusable):
     """What can't be left out: a scan that one region refuses, and others may have done."""
 

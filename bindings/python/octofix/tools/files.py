@@ -14,6 +14,8 @@ from octofix import _files
 from .errors import Unusable
 from .interrupts import INTERRUPTS
 from .memory import free_memory
+from .progress import say
+from .standing import refuse_others
 
 GZIP = b"\x1f\x8b"
 PIECE = 1 << 16
@@ -82,22 +84,41 @@ def expect_room(size, room, most=sys.maxsize):
 
 
 @contextlib.contextmanager
-def written(*names):
-    """Files to write, which take their places when all of them are whole, and else leave nothing.
-    An interrupt waits until they are there."""
-    outputs = [StandardOutput() if it == "-" else _files.Output(it) for it in names]
+def opened(places, is_forced=False):
+    """Files to write, of names with kinds. Those that aren't `put` in their places when this ends
+    leave nothing."""
+    refuse_others(places, is_forced)
+    outputs = [StandardOutput() if it == "-" else _files.Output(it) for it, _ in places]
     with contextlib.ExitStack() as stack:
         # (a pipe may wait for its reader)
         with INTERRUPTS.held(None):
             stack.enter_context(_files.opened(outputs))
         yield outputs
-        with INTERRUPTS.held(WRITING):
-            _files.put(outputs)
+
+
+def put(outputs, places, is_forced=False):
+    """Puts opened files in their places when all of them are whole, or none. An interrupt waits
+    until they are there."""
+    with INTERRUPTS.held(WRITING):
+        # (somebody else may have put something there meanwhile)
+        refuse_others(places, is_forced)
+        _files.put(outputs)
+        for it in filter(None, [output.told for output in outputs]):
+            say(it)
+
+
+@contextlib.contextmanager
+def written(places, is_forced=False):
+    """Files to write, which are put in their places where this ends without a fault."""
+    with opened(places, is_forced) as outputs:
+        yield outputs
+        put(outputs, places, is_forced)
     INTERRUPTS.take()
 
 
-def write(name, data):
-    with written(name) as (file,):
+def write(place, data, is_forced=False):
+    """Writes a file of a name with its kind."""
+    with written([place], is_forced) as (file,):
         file.write(data)
 
 

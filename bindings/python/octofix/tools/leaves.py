@@ -11,6 +11,7 @@ UNKNOWN, FREE, OCCUPIED = 0, 1, 2
 NAMES = ("unknown", "free", "occupied")
 VOXELS = 16
 ORIGIN = 1 << 15
+HIGHEST = 2 * ORIGIN - 1
 CHUNK = 1 << 18
 
 
@@ -62,12 +63,13 @@ class Leaves:
         """The voxels of a class."""
         return int(self.volumes()[self.classes == one].sum())
 
-    def box(self):
-        """The lowest and the highest key of all blocks, or None where there are none."""
+    def box(self, low=0, high=HIGHEST):
+        """The lowest and the highest key of all blocks, or of their parts in a box of keys that
+        they meet; None where there are none."""
         if not len(self):
             return None
-        lows = self.lows()
-        return lows.min(axis=0), (lows + self.edges()[:, None] - 1).max(axis=0)
+        lows, ends = self.clipped(low, high)
+        return lows.min(axis=0), ends.max(axis=0)
 
     def class_at(self, codes):
         """The class of each voxel."""
@@ -102,6 +104,47 @@ class Leaves:
             np.concatenate([self.classes[~is_deep], joined]),
             self.resolution,
         )
+
+    def meeting(self, low, high):
+        """The blocks that meet the box of these keys, both corners included, whole."""
+        lows = self.lows()
+        ends = lows + self.edges()[:, None] - 1
+        return self.select(((lows <= high) & (ends >= low)).all(axis=1))
+
+    def clipped(self, low, high):
+        """The lowest and the highest key that each block, which meets the box of these keys, has in
+        it: (n, 3) each."""
+        lows = self.lows()
+        return np.maximum(lows, low), np.minimum(lows + self.edges()[:, None] - 1, high)
+
+    def count_in(self, low, high, depth=VOXELS):
+        """How many blocks of this depth the blocks, which meet the box of these keys and of which
+        none is deeper, have in it or at its border."""
+        firsts, lasts = (it >> VOXELS - depth for it in self.clipped(low, high))
+        return int((lasts - firsts + 1).prod(axis=1).sum())
+
+    def border_of(self, low, high, most):
+        """The box of these keys, or the least one around it of blocks of one depth along whose
+        border at most about so many parts are cut off the blocks, and that depth."""
+        for depth in range(VOXELS, 0, -1):
+            wide = (1 << VOXELS - depth) - 1
+            first, last = np.asarray(low) & ~wide, np.asarray(high) | wide
+            if self._parts_along(first, last) <= most:
+                break
+        return first, last, depth
+
+    def _parts_along(self, low, high):
+        """About how many parts the border of a box cuts off."""
+        blocks = self.meeting(low, high)
+        lows, ends = blocks.clipped(low, high)
+        sizes, edges, parts = ends - lows + 1, blocks.edges(), 0
+        for axis in range(3):
+            faces = np.delete(sizes, axis, axis=1).prod(axis=1)
+            for cut, planes in ((low[axis], lows[:, axis]), (high[axis] + 1, ends[:, axis] + 1)):
+                # (parts are as wide as the plane lies along blocks)
+                is_cut = (planes == cut) & (cut % edges != 0)
+                parts += int(faces[is_cut].sum()) // (int(cut) & -int(cut) or 1) ** 2
+        return parts
 
     def within(self, low, high, depth=VOXELS):
         """The parts in the box of these keys, both corners included; at the depth a block counts

@@ -81,6 +81,18 @@ class Mapper:
         """The map of all scans."""
         return self.world
 
+    def is_torn(self):
+        """Whether a fault has left parts of scans in the map."""
+        return False
+
+    def whole_scans(self):
+        """How many scans the map has whole."""
+        return self.scans
+
+    def so_far(self):
+        """The map after a fault."""
+        return self.world
+
     def window(self):
         """Two points of the box of `limit`, or None."""
         box = self.world.window
@@ -119,6 +131,6 @@ class Mapper:
         before = self.world.to_snapshot()
         try:
             yield
-        except Refused:
+        except (Refused, MemoryError):
             self.world.load_snapshot(before)
             raise

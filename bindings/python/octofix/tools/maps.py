@@ -2,6 +2,9 @@
 
 import shutil
 import subprocess
+from dataclasses import dataclass
+
+import numpy as np
 
 from octofix import Refused
 
@@ -22,8 +25,14 @@ def read_map(name):
     return _read(name)[0]
 
 
-def _read(name):
+def read_map_with(name, **settings):
+    """The same, made with these words of a Map; log-odds of a snapshot come before them."""
+    return _read(name, **settings)[0]
+
+
+def _read(name, **settings):
     """The map of a file, and whether it has values, as a snapshot."""
+    settings = {"max_groups": MOST_GROUPS, **settings}
     content = read_bytes(name, MOST_BYTES)
     if not content:
         raise Unusable("it is empty", name)
@@ -32,7 +41,7 @@ def _read(name):
     is_snapshot = content[:8] in SNAPSHOTS
     form = PlacedMap.from_snapshot if is_snapshot else PlacedMap.from_bt
     try:
-        world = form(content, max_groups=MOST_GROUPS)
+        world = form(content, **settings)
     except Refused as refused:
         raise Unusable(f"it can't be read as a map: {refused}", name) from None
     world.origin = None if is_snapshot else origin_in(content)
@@ -62,16 +71,35 @@ def read_leaves(name, kind="known"):
 
 def read_leaves_and_values(name, kind="known"):
     """The classes of the map of a file, and of a snapshot the value of each block; else None."""
-    return read_placed(name, kind)[:2]
+    read = read_blocks(name, kind)
+    return read.leaves, read.values
 
 
 def read_placed(name, kind="known"):
     """The same, and where the map's origin lies, as a PlacedMap has it."""
+    read = read_blocks(name, kind)
+    return read.leaves, read.values, read.origin
+
+
+@dataclass(frozen=True)
+class Blocks:
+    """What a file of a map has: its leaves, of a snapshot the value of each one and its log-odds,
+    as words of a Map, else None, and where its origin lies, as a PlacedMap has it."""
+
+    leaves: Leaves
+    values: np.ndarray
+    odds: dict
+    origin: tuple
+
+
+def read_blocks(name, kind="known"):
+    """The Blocks of a file: all that is known, or what is of one class."""
     world, is_snapshot = _read(name)
     with world:
-        blocks = world.leaves(kind=kind)
-        leaves = Leaves.of(blocks, world.odds.threshold)
-    return leaves, blocks.value if is_snapshot else None, world.origin
+        blocks, odds = world.leaves(kind=kind), world.odds
+    leaves = Leaves.of(blocks, odds.threshold)
+    own = (blocks.value, odds._asdict()) if is_snapshot else (None, None)
+    return Blocks(leaves, *own, world.origin)
 
 
 def write_map(world, files):

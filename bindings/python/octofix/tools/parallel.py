@@ -211,6 +211,20 @@ class ParallelMapper:
         self.laid.no_limit()
         return self.laid
 
+    def is_torn(self):
+        return self.crew is not None and self.crew.fault is not None
+
+    def whole_scans(self):
+        return self.crew.gone if self.is_torn() else self.scans
+
+    def so_far(self):
+        self.crew.end()
+        there = [it for it in {self.laid, *self.worlds} - {None} if not it.closed]
+        while len(there) > 1:
+            there.append(_joined(there.pop(), there.pop()))
+        (self.laid,) = there
+        return self.joined()
+
     def _join(self, number):
         """Merges a thread's map with those that others have laid down, and lays it down itself
         where there is none."""

@@ -5,6 +5,7 @@ import io
 from .errors import Unusable
 from .files import write
 from .optional import needed
+from .standing import PICTURES
 
 # Above about this a picture is made with fewer pixels than its width asks for.
 MOST_PIXELS = 1 << 26
@@ -17,8 +18,8 @@ def form_of(name):
     return ending
 
 
-def write_picture(name, pixels):
-    write(name, picture(name, pixels))
+def write_picture(name, pixels, is_forced=False):
+    write((name, PICTURES[form_of(name)]), picture(name, pixels), is_forced)
 
 
 def picture(name, pixels):

@@ -9,6 +9,8 @@ MOST_COLUMNS = 1 << 26
 # What an OccupancyGrid of ROS has for each class.
 CELLS = np.array([-1, 0, 100], np.int8)
 STEP = 1 << 20
+# Columns of a block that is painted by itself.
+LARGE = 64
 
 
 def _plane(low, high, value, kind):
@@ -23,8 +25,8 @@ def _plane(low, high, value, kind):
 def band(leaves, low, high):
     """The greatest class in each column of the box: (columns on y, columns on x), y ascending."""
     plane = _plane(low, high, UNKNOWN, np.int8)
-    for column, row, classes in _columns(leaves, low, high):
-        np.maximum.at(plane, (row, column), classes)
+    starts, ends, meets = _in_box(leaves, low, high)
+    _raise(plane, starts - low, ends - low, leaves.classes[meets])
     return plane
 
 
@@ -41,30 +43,42 @@ def band_of(world, low, high):
 
 def heights(leaves, low, high):
     """The highest key on z in each column of the box: (columns on y, columns on x), -1 without."""
-    plane = _plane(low, high, -1, np.int64)
-    for column, row, tops in _columns(leaves, low, high, is_top=True):
-        np.maximum.at(plane, (row, column), tops)
+    plane = _plane(low, high, -1, np.int32)
+    starts, ends, _ = _in_box(leaves, low, high)
+    _raise(plane, starts - low, ends - low, ends[:, 2])
     return plane
 
 
-def _columns(leaves, low, high, is_top=False):
-    """Pieces of columns of the box that blocks stand in: their places, and the class of each, or
-    its highest key in the box."""
-    lows, edges = leaves.lows(), leaves.edges()
-    ends = np.minimum(lows + edges[:, None] - 1, high)
-    starts = np.maximum(lows, low)
+def _in_box(leaves, low, high):
+    """The lowest and the highest key that each block of those that meet the box has in it, and
+    which ones do."""
+    starts, ends = leaves.clipped(low, high)
     meets = (starts <= ends).all(axis=1)
-    starts, ends = starts[meets], ends[meets]
-    values = ends[:, 2] if is_top else leaves.classes[meets]
-    counts = ends[:, :2] - starts[:, :2] + 1
-    sums = np.cumsum(counts[:, 0] * counts[:, 1])
+    return starts[meets], ends[meets], meets
+
+
+def _raise(plane, starts, ends, values):
+    """Raises each column that a block stands in, from a start to an end, to its value at least."""
+    order = np.argsort(values, kind="stable")
+    widths = (ends - starts)[:, 0] + 1
+    depths = (ends - starts)[:, 1] + 1
+    is_large = (widths * depths)[order] > LARGE
+    for at in order[is_large]:
+        (x, y), (last_x, last_y) = starts[at, :2], ends[at, :2]
+        part = plane[y : last_y + 1, x : last_x + 1]
+        np.maximum(part, values[at], out=part)
+    # (from the least value on, so that the greatest one stays)
+    small = order[~is_large]
+    sums = np.cumsum((widths * depths)[small])
+    before = sums - (widths * depths)[small]
     for first in range(0, int(sums[-1]) if len(sums) else 0, STEP):
         place = np.arange(first, min(first + STEP, int(sums[-1])))
         at = np.searchsorted(sums, place, "right")
-        inside = place - (sums - counts[:, 0] * counts[:, 1])[at]
-        column = starts[at, 0] + inside % counts[at, 0] - low[0]
-        row = starts[at, 1] + inside // counts[at, 0] - low[1]
-        yield column, row, values[at]
+        row, column = np.divmod(place - before[at], widths[small[at]])
+        row, column = row + starts[small[at], 1], column + starts[small[at], 0]
+        raised = np.maximum(plane[row, column], values[small[at]])
+        plane[row, column] = raised
+    return plane
 
 
 def frontier(plane):

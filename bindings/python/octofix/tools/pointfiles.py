@@ -9,6 +9,7 @@ import numpy as np
 from .errors import Unusable
 from .files import written
 from .leaves import CHUNK
+from .standing import POINTS
 
 # The fewest bytes that a number takes in each form.
 FORMS = {"ply": 4, "pcd": 4, "xyz": 2, "csv": 2, "npy": 8}
@@ -22,11 +23,11 @@ def form_of(name, asked):
     return form
 
 
-def write_points(name, form, columns, count, pieces):
+def write_points(name, form, columns, count, pieces, is_forced=False):
     """Writes pieces (n, len(columns)), which have so many rows together, as numbers of 32 bits
     (PLY, PCD) or 64 bits (.npy), or text."""
     _expect_room(name, count, count * len(columns) * FORMS[form])
-    with written(name) as (file,):
+    with written([(name, POINTS[form])], is_forced) as (file,):
         file.write(_header(form, columns, count))
         for piece in pieces:
             for low in range(0, len(piece), CHUNK):

@@ -1,27 +1,34 @@
-"""Maps of classes alone, made of leaves."""
+"""Maps made of leaves, of classes alone or with values."""
 
 import numpy as np
 
-from octofix import Event, Map, Refused
+from octofix import Event, Refused
 
-from .editing import edit_blocks
+from .destinations import asked_of, expect_something, places_of
+from .editing import ALL, edit_blocks
 from .errors import Unusable
-from .files import write
+from .files import written
 from .leaves import OCCUPIED
 from .lengths import NANO
-from .maps import MOST_GROUPS
-from .progress import say
+from .maps import MOST_GROUPS, write_map
+from .surveys import PlacedMap
 
 
-def write_leaves(name, leaves, steps=(0, 0, 0)):
-    """Writes the .bt file of the classes, each voxel moved by so many voxels on each axis."""
-    with Map(leaves.resolution / NANO, max_groups=MOST_GROUPS) as world:
-        odds = world.odds
-        numbers = np.where(leaves.classes == OCCUPIED, odds.max, odds.min)
+def write_leaves(options, read, leaves, values=None, *, steps=(0, 0, 0), box=ALL):
+    """Writes a map of what leaves, which meet a box of keys, have in it, each voxel moved by so
+    many voxels on each axis. `read` is what was read; `values` are those of the leaves, or None
+    where the map that was read has classes alone."""
+    asked = asked_of(options)
+    expect_something(options, len(leaves))
+    odds = {} if values is None else read.odds
+    with PlacedMap(leaves.resolution / NANO, **odds, max_groups=MOST_GROUPS) as world:
+        world.origin = read.origin
+        if values is None:
+            most = world.odds
+            values = np.where(leaves.classes == OCCUPIED, most.max, most.min)
         try:
-            edit_blocks(world, leaves, Event.SET, numbers, steps)
+            edit_blocks(world, leaves, Event.SET, values, steps, box)
         except Refused as refused:
             raise Unusable(f"the map can't be made: {refused}") from None
-        write(name, world.to_bt())
-    if not len(leaves):
-        say("nothing is known there: the map that is written is empty")
+        with written(places_of(options), options.force) as files:
+            write_map(world, dict(zip(asked, files)))

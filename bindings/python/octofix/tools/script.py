@@ -21,18 +21,26 @@ def _lengths(points):
 
 
 class Script:
-    """Writes lines to a binary file."""
+    """Writes lines to a binary file. `size` is how many bytes what is whole has there."""
 
     def __init__(self, file):
         self.file = file
+        self.size = self._written = 0
 
     def _write(self, lines):
-        self.file.write("".join(f"{it}\n" for it in lines).encode())
+        content = "".join(f"{it}\n" for it in lines).encode()
+        self.file.write(content)
+        self._written += len(content)
+
+    def copy_to(self, file):
+        """Writes what is whole to another file."""
+        self.file.copy_to(file, self.size)
 
     def limit(self, low, high):
         """The box of a limit, from one point in metres to another."""
         corners = [metres(it) for point in (low, high) for it in nanometres(point)]
         self._write([f"limit {' '.join(corners)}"])
+        self.size = self._written
 
     def scan(self, scan, reach):
         """A scan as the map did it: its points are turned already, so the quaternion turns no
@@ -42,6 +50,7 @@ class Script:
         self._write([f"scan {origin} 1 0 0 0 {cut}"])
         self._write(f"p {it}" for it in _lengths(scan.points))
         self._write(["end"])
+        self.size = self._written
 
     def edits(self, leaves):
         """A hit for each occupied voxel and a miss for each free one, blocks as boxes."""
@@ -51,6 +60,7 @@ class Script:
             f"{_word(one)} {low}" if depth == VOXELS else f"box {low} {high} {_word(one)}"
             for depth, one, low, high in rows
         )
+        self.size = self._written
 
 
 def _word(one):

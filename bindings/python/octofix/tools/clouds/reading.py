@@ -135,6 +135,8 @@ def _opened(name, reading):
             refuse_unread(content)
     _expect_use(reading, form)
     if form == "bag":
+        if os.path.exists(name) and not os.path.isfile(name):
+            raise Unusable("a ROS bag is read of a file, and not of a device or a pipe")
         if name != "-" and os.path.isfile(name):
             refuse_empty(os.path.getsize(name))
         return form, bags.read(name, reading.bag)

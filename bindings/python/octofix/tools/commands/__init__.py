@@ -1,2 +1,3 @@
-"""The subcommands. Each module has HELP, a line; `arguments(parser)`; and `run(options)`, which
-answers the exit status."""
+"""The subcommands. Each module has HELP, a line; `arguments(parser)`; where it writes files
+`outputs(options)`, their names with their kinds; and `run(options)`, which answers the exit
+status."""

@@ -2,12 +2,17 @@
 above free), and is filled with it. The resolution stays.
 
     octofix coarsen map.bt --depth 14 -o coarse.bt
+    octofix coarsen map.snap --depth 14 --snapshot coarse.snap
+
+A snapshot has the greatest value of each block where the map is a snapshot itself.
 """
 
-from ..arguments import add_map, add_output, classes_output, whole
+from ..arguments import add_map, add_map_outputs, whole
+from ..clashes import refuse_first
+from ..destinations import asked_of, places_of
 from ..errors import DONE
-from ..leaves import VOXELS
-from ..maps import read_leaves
+from ..leaves import VOXELS, greatest_values
+from ..maps import read_blocks
 from ..rebuild import write_leaves
 
 HELP = "a map of greater blocks"
@@ -18,9 +23,18 @@ def arguments(parser):
     parser.add_argument(
         "--depth", type=whole(0, VOXELS), required=True, metavar="D", help="16 is a voxel"
     )
-    add_output(parser, of=classes_output)
+    add_map_outputs(parser)
+
+
+outputs = places_of
 
 
 def run(options):
-    write_leaves(options.output, read_leaves(options.map).coarse(options.depth))
+    asked_of(options)
+    refuse_first(options, options.map)
+    read = read_blocks(options.map)
+    leaves, values = read.leaves.coarse(options.depth), read.values
+    if values is not None:
+        values = greatest_values(values, read.leaves, leaves)
+    write_leaves(options, read, leaves, values)
     return DONE

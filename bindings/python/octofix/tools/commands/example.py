@@ -19,6 +19,7 @@ import numpy as np
 from ..errors import DONE, Unusable
 from ..files import written
 from ..flat_plan import LEGS, ON_FLOOR, PLACES, TABLES, WALLS
+from ..standing import ANY
 
 HELP = "clouds and poses to try the others on"
 SENSOR = 1.4
@@ -93,7 +94,8 @@ def _made(folder):
 
 def _write_flat(folder, clouds):
     names = [clouds / f"{number}.npy" for number in range(len(PLACES))]
-    with written(*map(str, [folder / "poses.txt", *names])) as (poses, *files):
+    places = [(str(it), ANY) for it in (folder / "poses.txt", *names)]
+    with written(places) as (poses, *files):
         poses.write(b"# time x y z qx qy qz qw\n")
         for number, (place, file) in enumerate(zip(PLACES, files)):
             turned = number * 0.9

@@ -9,7 +9,6 @@ free cells of the picture that have an unknown one beside them.
 """
 
 import os
-import re
 
 import numpy as np
 
@@ -18,13 +17,15 @@ from ..arguments import Output, add_map, add_origin, add_output, finite
 from ..boxes import box_of
 from ..clashes import refuse_clashes
 from ..errors import DONE, Unusable
-from ..files import read_bytes, written
+from ..files import written
 from ..leaves import FREE, OCCUPIED, ORIGIN, UNKNOWN
 from ..lengths import NANO, metres
 from ..maps import read_map
 from ..pictures import form_of, picture
 from ..pointfiles import points_file
 from ..progress import say
+from ..standing import PICTURES, POINTS
+from ..standing import YAML as YAML_OF_MAP
 from ..surveys import the_one
 from ..yamltext import text_of
 
@@ -53,49 +54,42 @@ def arguments(parser):
     parser.add_argument("--frontier", type=Output, metavar="FILE", help="a .csv of the frontier")
 
 
+def outputs(options):
+    """The picture, the YAML beside it, and the frontier."""
+    beside = Output(os.path.splitext(options.output)[0] + ".yaml")
+    found = [(options.output, PICTURES[form_of(options.output)]), (beside, YAML_OF_MAP)]
+    frontier = getattr(options, "frontier", None)
+    return found + [(frontier, POINTS["csv"])] * bool(frontier)
+
+
 def run(options):
-    beside = yaml_beside(options)
+    places = outputs(options)
+    refuse_clashes(options, places[1][0])
     with read_map(options.map) as world:
         resolution = world.resolution_nm
         low, high = box_for(world.bounds(), resolution, options.area, options.height)
         plane = planes.band_of(world, low, high)
         origin = the_one(world.origin, options.origin, options.map)
     place = low, resolution, origin
-    write_grid(options.output, beside, plane, place, options.frontier)
+    write_grid(places, plane, place, options.force)
     return DONE
 
 
-def yaml_beside(options):
-    """The YAML's name, beside that of the picture; refused where something else stands there."""
-    form_of(options.output)
-    beside = Output(os.path.splitext(options.output)[0] + ".yaml")
-    refuse_clashes(options, beside)
-    _refuse_other_yaml(beside)
-    return beside
-
-
-def write_grid(name, beside, plane, place, frontier=None):
-    """Writes the picture of a plane of classes, its YAML, and where a file is named its frontier.
-    place: the key of the lower left cell, the resolution, and where the map's origin lies, or
+def write_grid(places, plane, place, is_forced=False):
+    """Writes the picture of a plane of classes, its YAML, and where a third place is named its
+    frontier. place: the key of the lower left cell, the resolution, and where the map's origin lies, or
     None."""
-    low, resolution, _ = place
+    (name, _), (low, resolution, _) = places[0], place
     image = text_of(os.path.basename(name))
     greys = np.array([GREYS[it] for it in (UNKNOWN, FREE, OCCUPIED)], np.uint8)
-    contents = {name: picture(name, greys[plane[::-1]])}
-    contents[beside] = yaml_of(image, *place).encode()
-    if frontier:
-        contents[frontier] = frontier_file(plane, low, resolution)
-    with written(*contents) as files:
-        for file, content in zip(files, contents.values()):
+    contents = [picture(name, greys[plane[::-1]]), yaml_of(image, *place).encode()]
+    if len(places) > 2:
+        contents.append(frontier_file(plane, low, resolution))
+    with written(places, is_forced) as files:
+        for file, content in zip(files, contents):
             file.write(content)
     counted = ", ".join(f"{(plane == it).sum()} {name}" for it, name in _named())
     say(f"{plane.shape[1]} x {plane.shape[0]} cells: {counted}")
-
-
-def _refuse_other_yaml(name):
-    """Refuses to write over a YAML that is of no picture, as nobody has named it."""
-    if os.path.isfile(name) and not re.search(rb"(?m)^image:|\A\s*\Z", read_bytes(name)):
-        raise Unusable("it stands there, and is no YAML of a map (another -o)", name)
 
 
 def _named():

@@ -9,6 +9,8 @@ x, y and z; of more a heading or --columns says which are. Where a pose stands i
 (VIEWPOINT of PCD, NODE) it is used unless poses are given; without any, the sensor stands at the
 origin.
 
+--from map.snap goes on from a map, so that clouds may come in several runs.
+
 --jobs N makes the same map by N threads, each of which has a region. --region K/N does the scans in
 one of N regions, the same ones for the same clouds; 'octofix merge' joins their snapshots.
 """
@@ -17,27 +19,36 @@ import os
 
 from octofix import Refused
 
+from .. import destinations
 from ..arguments import (
-    Output, add_scans, classes_output, length, region, thousandths, values_output, whole,
+    Input, Output, add_force, add_scans, classes_output, length, region, thousandths,
+    values_output, whole,
 )  # fmt: skip
-from ..clashes import refuse_clouds
-from ..errors import DONE, INTERRUPTED, SKIPPED, Unusable
-from ..files import WRITING, written
+from ..errors import DONE, INTERRUPTED, SKIPPED, Misused, Unusable
+from ..files import WRITING, opened, put
 from ..interrupts import INTERRUPTS, Abandoned
-from ..lengths import nanometres
+from ..keeping import keep, told
+from ..lengths import metres, nanometres
 from ..mapping import Mapper
-from ..maps import write_map
+from ..maps import read_map_with, write_map
 from ..parallel import ParallelMapper, RegionMapper
 from ..progress import Progress, is_terminal, say
 from ..script import Script
 from ..setup import scans_of
-from ..surveys import PlacedMap
+from ..standing import SCRIPT
+from ..surveys import PlacedMap, expect_subtracted, the_one
 
 HELP = "clouds to a map"
 OUTPUTS = {
     "output": (("-o", "--output"), classes_output, "the .bt file of the map"),
     "snapshot": (("--snapshot",), values_output, "the map with its values"),
     "script": (("--script",), Output, "commands for 'octomap build' or a session"),
+}
+KINDS = {**destinations.KINDS, "script": SCRIPT}
+ON_ERROR = {
+    "keep": "ends the run and keeps the map so far, as FILE.partial",
+    "stop": "ends it with no file",
+    "skip": "leaves it out",
 }
 # What is refused by the map, in the words of the options.
 REFUSED = {
@@ -52,17 +63,23 @@ ODDS = {"hit": 850, "miss": -400, "min": -2000, "max": 3500, "thr": 0}
 
 
 def arguments(parser):
-    add_scans(parser)
-    parser.add_argument("--res", type=length, required=True, metavar="M", help="edge of a voxel")
+    add_scans(parser, ON_ERROR)
+    parser.add_argument("--res", type=length, metavar="M", help="edge of a voxel")
+    parser.add_argument(
+        "--from", dest="start", type=Input, metavar="MAP",
+        help="go on from this map, of a snapshot with its values and log-odds; --res may be left "
+        "out then",
+    )  # fmt: skip
     out = parser.add_argument_group("what is written (- is the output)")
     for words, kind, said in OUTPUTS.values():
         out.add_argument(*words, type=kind, metavar="FILE", help=said)
     out.add_argument(
         "--allow-empty", action="store_true", help="write a map that no scan has put a point into"
     )
+    add_force(out)
     for name, number in ODDS.items():
         parser.add_argument(
-            f"--{name}", type=thousandths, default=number, metavar="N",
+            f"--{name}", type=thousandths, metavar="N",
             help=f"thousandths of log-odds ({number})",
         )  # fmt: skip
     parser.add_argument(
@@ -82,30 +99,61 @@ def arguments(parser):
     cores.add_argument("--region", type=region, metavar="K/N", help="the Kth of N regions alone")
 
 
+def outputs(options):
+    return destinations.places_of(options, KINDS)
+
+
 def run(options):
-    kinds = [it for it in OUTPUTS if getattr(options, it)]
-    names = [getattr(options, it) for it in kinds]
-    if not names:
-        raise Unusable("nothing is to be written (-o, --snapshot or --script)")
-    if names.count("-") > 1:
-        raise Unusable("only one of -o, --snapshot and --script can be the output")
-    refuse_clouds(names, options.clouds)
-    scans = scans_of(options)
+    _expect_start(options)
+    asked = destinations.asked_of(options, KINDS)
+    scans, places = scans_of(options), outputs(options)
     # (what can't be written is told before all the work)
-    with INTERRUPTS.held(WRITING), written(*names) as opened:
-        files = dict(zip(kinds, opened))
-        mapper = _mapper_of(options, Script(files["script"]) if options.script else None)
-        is_stopped = _fill(mapper, scans, options)
-        if is_stopped and options.region:
-            raise KeyboardInterrupt(": nothing is written, as other regions may have more scans")
-        _expect_points(mapper, scans, is_stopped, options.allow_empty)
-        INTERRUPTS.finish(WRITING, _write, mapper, files)
+    with INTERRUPTS.held(WRITING), opened(places, options.force) as files:
+        named = dict(zip(asked, files))
+        script = Script(named["script"]) if options.script else None
+        mapper = _mapper_of(options, script)
+        try:
+            is_stopped = _make(mapper, scans, options, named)
+            put(files, places, options.force)
+        except Exception as fault:
+            is_nothing = not (mapper.points and mapper.whole_scans())
+            if options.on_error == "stop" or options.region or is_nothing:
+                raise
+            raise _with_kept(fault, mapper, script, dict(zip(asked, places))) from None
+    INTERRUPTS.take()
     if not options.quiet:
         say(_closing_line(mapper, scans))
     if is_stopped:
         say(f"stopped by {INTERRUPTS.name()}: the map has the scans until then")
         return INTERRUPTED
     return SKIPPED if scans.skips.count or scans.gaps else DONE
+
+
+def _make(mapper, scans, options, files):
+    """Makes the map, and writes it; whether an interrupt came before all scans were done."""
+    ended = _fill(mapper, scans, options)
+    is_stopped = isinstance(ended, KeyboardInterrupt)
+    if ended and not is_stopped:
+        raise ended
+    if is_stopped and options.region:
+        raise KeyboardInterrupt(": nothing is written, as other regions may have more scans")
+    _expect_points(mapper, scans, is_stopped, options.allow_empty)
+    INTERRUPTS.finish(WRITING, _write, mapper, files)
+    return is_stopped
+
+
+def _with_kept(fault, mapper, script, places):
+    """The fault, which says where the map is that the mapper has made until then."""
+
+    def fill(files):
+        write_map(mapper.so_far(), files)
+        if script:
+            script.copy_to(files["script"])
+
+    names = INTERRUPTS.finish(WRITING, keep, places, fill)
+    more = " and parts of later ones" * mapper.is_torn()
+    said = f"the map so far, of {mapper.whole_scans()} scans{more}, is in {' and '.join(names)}"
+    return told(fault, said) if names else fault
 
 
 def _mapper_of(options, script):
@@ -118,28 +166,63 @@ def _mapper_of(options, script):
     return Mapper(_map_of(options), options.range, script)
 
 
+def _expect_start(options):
+    """Unusable where it isn't said how the map begins, or in two ways."""
+    if options.start is None and options.res is None:
+        raise Misused("--res is needed, or --from with a map that has one")
+    lone = {"--jobs": options.jobs != 1, "--region": options.region, "--script": options.script}
+    for word in [it for it, is_there in lone.items() if is_there and options.start is not None]:
+        raise Misused(f"--from and {word} exclude each other")
+
+
 def _map_of(options):
-    odds = {name: getattr(options, name) for name in ODDS}
+    """The map that scans are to be done in."""
+    asked = {name: getattr(options, name) for name in ODDS}
+    odds = {name: ODDS[name] if it is None else it for name, it in asked.items()}
     odds["threshold"] = odds.pop("thr")
     limits = {"max_groups": options.max_groups, "max_cells": options.max_cells}
     try:
-        world = PlacedMap(options.res, **odds, **limits)
+        if options.start is None:
+            world = PlacedMap(options.res, **odds, **limits)
+        else:
+            world = read_map_with(options.start, **odds, **limits)
     except Refused as refused:
         field = refused.fields.get("field", refused.name)
         raise Unusable(REFUSED.get(field, str(refused))) from None
-    world.origin = options.origin and tuple(nanometres(options.origin).tolist())
+    if options.start is not None:
+        _expect_same(world, options, asked)
+    origin = options.origin and tuple(nanometres(options.origin).tolist())
+    world.origin = the_one(world.origin, origin, options.start)
     return world
 
 
+def _expect_same(world, options, asked):
+    """Unusable where a map that is to be gone on from isn't as it was asked for."""
+    found = dict(zip(ODDS, world.odds), res=world.resolution_nm)
+    asked["res"] = None if options.res is None else int(nanometres(options.res))
+    for name, number in asked.items():
+        if number is not None and number != found[name]:
+            has = metres(found[name]) if name == "res" else found[name]
+            raise Unusable(f"it has --{name} {has}, and another one is asked for", options.start)
+    if world.window is not None:
+        said = "it is the map of a region ('octofix merge' joins them first)"
+        raise Unusable(said, options.start)
+    # (a map has its origin in its own frame, and clouds are in theirs)
+    expect_subtracted(world.origin, options.origin, options.start)
+
+
 def _fill(mapper, scans, options):
-    """Does all scans; whether an interrupt came, which waits until those that run are done."""
+    """Does all scans, or those before what ends this: an interrupt or a fault, which is answered
+    when those that run are done."""
     is_shown = not options.quiet and is_terminal()
     progress = Progress(len(options.clouds) if scans.is_one_each() else None, is_shown)
     try:
-        is_stopped = _begin(mapper, scans, progress)
+        ended = _begin(mapper, scans, progress)
+        if ended and options.on_error == "stop" and not isinstance(ended, KeyboardInterrupt):
+            raise ended
         while INTERRUPTS.finish("the running scans", mapper.catch_up):
             _show(mapper, progress)
-        return is_stopped
+        return ended
     finally:
         mapper.stop()
         progress.close()
@@ -147,7 +230,7 @@ def _fill(mapper, scans, options):
 
 
 def _begin(mapper, scans, progress):
-    """Begins with all scans; whether an interrupt came."""
+    """Begins with all scans; the interrupt or the fault that came before their end."""
     try:
         with INTERRUPTS.held(None):
             mapper.begin(scans)
@@ -157,9 +240,9 @@ def _begin(mapper, scans, progress):
                 INTERRUPTS.take()
     except Abandoned:
         raise
-    except KeyboardInterrupt:
-        return True
-    return False
+    except (Exception, KeyboardInterrupt) as ended:
+        return ended
+    return None
 
 
 def _show(mapper, progress):

@@ -13,8 +13,9 @@ whole, or a region is missing.
 
 from octofix import Refused, Rule
 
-from ..arguments import Input, classes_output, values_output
+from ..arguments import Input, add_map_outputs
 from ..clashes import refuse_first
+from ..destinations import asked_of, expect_something, places_of
 from ..errors import DONE, Unusable
 from ..files import WRITING, written
 from ..interrupts import INTERRUPTS
@@ -34,14 +35,7 @@ def arguments(parser):
     parser.add_argument(
         "maps", nargs="+", type=Input, metavar="MAP", help="snapshots or .bt files; - is the input"
     )
-    parser.add_argument(
-        "-o", "--output", type=classes_output, metavar="FILE",
-        help="the .bt file; - is the output",
-    )  # fmt: skip
-    parser.add_argument(
-        "--snapshot", type=values_output, metavar="FILE",
-        help="the map with its values; - is the output",
-    )  # fmt: skip
+    add_map_outputs(parser)
     parser.add_argument(
         "--rule", choices=[*RULES],
         help="the value where several know a voxel: that of the first of the maps, the greatest or "
@@ -52,18 +46,18 @@ def arguments(parser):
     )
 
 
+def outputs(options):
+    return places_of(options)
+
+
 def run(options):
-    kinds = [it for it in ("output", "snapshot") if getattr(options, it)]
-    names = [getattr(options, it) for it in kinds]
-    if not names:
-        raise Unusable("nothing is to be written (-o or --snapshot)")
-    if names.count("-") > 1:
-        raise Unusable("only one of -o and --snapshot can be the output")
-    refuse_first(options, options.maps)
-    with INTERRUPTS.held(WRITING), written(*names) as opened:
+    asked = asked_of(options)
+    refuse_first(options, options.maps[0])
+    with INTERRUPTS.held(WRITING), written(outputs(options), options.force) as opened:
         with INTERRUPTS.held(None):
             world = _joined(options)
-        INTERRUPTS.finish(WRITING, write_map, world, dict(zip(kinds, opened)))
+            expect_something(options, world.bounds() is not None)
+        INTERRUPTS.finish(WRITING, write_map, world, dict(zip(asked, opened)))
     return DONE
 
 

@@ -22,6 +22,7 @@ from ..maps import read_leaves
 from ..morton import decode
 from ..pointfiles import FORMS, form_of, write_points
 from ..progress import say
+from ..standing import POINTS as KINDS
 
 HELP = "voxels as points: PLY, PCD, XYZ, CSV, .npy"
 CLASSES = {"occupied": OCCUPIED, "free": FREE}
@@ -36,13 +37,17 @@ def arguments(parser):
     add_output(parser)
 
 
+def outputs(options):
+    return [(options.output, KINDS[form_of(options.output, options.format)])]
+
+
 def run(options):
     form = form_of(options.output, options.format)
     if options.what == "frontier" and options.depth != VOXELS:
         raise Unusable("a frontier is of voxels, and takes no --depth")
     columns = ["x", "y", "z"] + ["size", "class"] * (options.what == "leaves")
     count, found = pieces(options)
-    write_points(options.output, form, columns, count, found)
+    write_points(options.output, form, columns, count, found, options.force)
     say(f"{count} points ({options.what}) written to {options.output}")
     return DONE
 

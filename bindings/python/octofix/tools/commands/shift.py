@@ -1,16 +1,21 @@
-"""Writes a map moved by whole voxels, as a .bt file.
+"""Writes a map moved by whole voxels.
 
     octofix shift map.bt --by 1.5 0 -0.2 -o moved.bt
     octofix shift map.bt --voxels 15 0 -2 -o moved.bt
+    octofix shift map.snap --voxels 15 0 -2 --snapshot moved.snap
+
+A snapshot has the values of the map where that is a snapshot itself.
 """
 
 import numpy as np
 
-from ..arguments import add_map, add_output, classes_output, finite, whole
+from ..arguments import add_map, add_map_outputs, finite, whole
+from ..clashes import refuse_first
+from ..destinations import asked_of, places_of
 from ..errors import DONE, Unusable
 from ..leaves import ORIGIN
 from ..lengths import metres, nanometres
-from ..maps import read_leaves
+from ..maps import read_blocks
 from ..rebuild import write_leaves
 
 HELP = "a map moved by whole voxels"
@@ -22,17 +27,23 @@ def arguments(parser):
     how.add_argument("--by", nargs=3, type=finite, metavar=("X", "Y", "Z"), help="in metres")
     steps = whole(-65535, 65535)
     how.add_argument("--voxels", nargs=3, type=steps, metavar=("X", "Y", "Z"), help="in voxels")
-    add_output(parser, of=classes_output)
+    add_map_outputs(parser)
+
+
+outputs = places_of
 
 
 def run(options):
-    leaves = read_leaves(options.map)
+    asked_of(options)
+    refuse_first(options, options.map)
+    read = read_blocks(options.map)
+    leaves = read.leaves
     steps = _steps_of(options, leaves.resolution)
     if len(leaves):
         low, high = leaves.box()
         if (low + steps < 0).any() or (high + steps >= 2 * ORIGIN).any():
             raise Unusable("the map would reach beyond its border")
-    write_leaves(options.output, leaves, steps)
+    write_leaves(options, read, leaves, read.values, steps=steps)
     return DONE
 
 

@@ -29,17 +29,20 @@ from ..arguments import add_box, add_map, add_origin, add_output, finite, whole
 from ..boxes import box_of
 from ..errors import DONE, Unusable
 from ..files import write
-from ..leaves import OCCUPIED, VOXELS, values_of_parts
+from ..leaves import HIGHEST, OCCUPIED, VOXELS, values_of_parts
 from ..maps import read_leaves, read_placed
 from ..morton import decode
 from ..page import FOLDER, MOST_LEAVES, fewer, page
 from ..pictures import MOST_PIXELS, write_picture
 from ..progress import say
+from ..standing import PAGE, PICTURES
 from ..surveys import the_one
 from .grid import box_for
 
 HELP = "a page for a browser, or a picture: from above, from a corner, a slice"
 MOST_VOXELS = 1 << 22
+# Of large blocks along the border of a box.
+MOST_PARTS = 1 << 20
 SIGNS = np.array([" ", ".", "#"])
 PAGES = (".html", ".htm")
 # The page into which maps are dropped: with the proved library in it, where that is installed.
@@ -72,6 +75,13 @@ def arguments(parser):
     add_origin(parser)
 
 
+def outputs(options):
+    name = options.output
+    if not name or name == "-":
+        return []
+    return [(name, PAGE if name.lower().endswith(PAGES) else PICTURES["png"])]
+
+
 def run(options):
     if options.text and options.slice is None:
         raise Unusable("--text shows a slice (--slice Z)")
@@ -90,14 +100,16 @@ def run(options):
     if options.slice is not None:
         _slice(leaves, options)
         return DONE
+    box = (0, HIGHEST)
     if options.box:
-        leaves = leaves.within(*box_of(options.box, leaves.resolution))
+        box = box_of(options.box, leaves.resolution)
+        leaves = leaves.meeting(*box)
         if not len(leaves):
             raise Unusable("nothing is known there")
     if options.oblique:
-        _oblique(leaves, options)
+        _oblique(leaves, box, options)
     else:
-        _above(leaves, options)
+        _above(leaves, box, options)
     return DONE
 
 
@@ -109,7 +121,7 @@ def _page(options):
     content = _page_of(options)
     name = options.output or _write_for_the_browser(content)
     if options.output:
-        write(name, content)
+        write((name, PAGE), content, options.force)
     if options.open and not webbrowser.open(pathlib.Path(name).absolute().as_uri()):
         raise Unusable(f"no browser could be started; open {name} in one")
     if not options.output:
@@ -121,7 +133,7 @@ def _write_for_the_browser(content):
     folder = tempfile.mkdtemp(prefix="octofix-")
     name = os.path.join(folder, "map.html")
     try:
-        write(name, content)
+        write((name, PAGE), content)
     finally:
         # (with the page in it, it stays)
         with contextlib.suppress(OSError):
@@ -135,7 +147,11 @@ def _page_of(options):
     leaves, values, said = read_placed(options.map)
     origin = the_one(said, options.origin, options.map)
     if options.box:
-        part = leaves.within(*box_of(options.box, leaves.resolution))
+        *box, deepest = leaves.border_of(*box_of(options.box, leaves.resolution), MOST_PARTS)
+        if deepest < VOXELS:
+            said = "it cuts off too many parts of large ones"
+            say(f"the box ends with blocks of depth {deepest}: {said}")
+        part = leaves.within(*box)
         values = values if values is None else values_of_parts(values, leaves, part)
         leaves = part
     if not len(leaves):
@@ -172,15 +188,17 @@ def _slice(leaves, options):
         _write(options, colours.by_class(plane))
 
 
-def _above(leaves, options):
+def _above(leaves, box, options):
     occupied = leaves.of_class(OCCUPIED)
-    low, high = box_for(leaves.box(), leaves.resolution, None, None)
+    low, high = box_for(leaves.box(*box), leaves.resolution, None, None)
     known, tops = planes.band(leaves, low, high), planes.heights(occupied, low, high)
-    image = np.where((known > 0)[..., None], colours.SEEN, colours.BACKGROUND).astype(np.uint8)
+    image = np.array([colours.BACKGROUND, colours.SEEN], np.uint8)[(known > 0).view(np.uint8)]
     is_there = tops >= 0
     if is_there.any():
         seen = tops[is_there]
-        image[is_there] = colours.by_height(seen, seen.min(), seen.max())
+        least, most = seen.min(), seen.max()
+        shades = colours.by_height(np.arange(least, most + 1), least, most)
+        image[is_there] = shades[seen - least]
     _write(options, image[::-1])
 
 
@@ -188,27 +206,28 @@ def _write(options, cells):
     """A picture of cells, each of as many pixels as the width and the most pixels have room for."""
     rows, columns, _ = cells.shape
     times = max(min(options.width // columns, isqrt(MOST_PIXELS // (rows * columns))), 1)
-    write_picture(options.output, np.repeat(np.repeat(cells, times, axis=0), times, axis=1))
+    pixels = np.repeat(np.repeat(cells, times, axis=0), times, axis=1)
+    write_picture(options.output, pixels, options.force)
 
 
-def _voxels(leaves):
-    """The keys of occupied voxels, or the numbers of greater blocks where there are too many, and
-    how many voxels a block has along an edge."""
-    depth = VOXELS
-    occupied = leaves.of_class(OCCUPIED)
-    while occupied.count(OCCUPIED) >> 3 * (VOXELS - depth) > MOST_VOXELS:
+def _voxels(leaves, box):
+    """The keys of occupied voxels in a box of keys, or the numbers of greater blocks where there
+    are too many."""
+    depth, occupied = VOXELS, leaves.of_class(OCCUPIED).meeting(*box)
+    while occupied.count_in(*box, depth) > MOST_VOXELS:
         depth -= 1
-        occupied = leaves.coarse(depth).of_class(OCCUPIED)
+        occupied = occupied.coarse(depth)
     if depth < VOXELS:
         say(f"blocks of depth {depth} are shown: there are more than {MOST_VOXELS} voxels")
-    codes = [codes for codes, _ in occupied.blocks(depth)]
+    codes = [codes for codes, _ in occupied.within(*box, depth).blocks(depth)]
     if not codes:
         raise Unusable("nothing is occupied there")
-    return decode(np.concatenate(codes) >> 3 * (VOXELS - depth)), 1 << (VOXELS - depth)
+    return decode(np.concatenate(codes) >> 3 * (VOXELS - depth))
 
 
-def _oblique(leaves, options):
-    keys, _ = _voxels(leaves)
+def _oblique(leaves, box, options):
+    keys = _voxels(leaves, box)
     asked = {"around": options.around, "above": options.above}
     camera = oblique.Camera(**{name: it for name, it in asked.items() if it is not None})
-    write_picture(options.output, oblique.picture(keys, camera, options.width))
+    picture = oblique.picture(keys, camera, options.width)
+    write_picture(options.output, picture, options.force)

@@ -11,9 +11,10 @@ import numpy as np
 from octofix.tiles import Tiles
 
 from ...arguments import add_output, finite
+from ...clashes import refuse_clashes
 from ...errors import DONE, Unusable
 from ...leaves import FREE, ORIGIN
-from ..grid import yaml_beside, write_grid
+from ..grid import outputs, write_grid
 from .running import add_folder, refuse_inside
 
 HELP = "a height band as PGM or PNG, with its YAML for ROS"
@@ -32,7 +33,8 @@ def arguments(parser):
 
 def run(options):
     refuse_inside(options.folder, options.output)
-    beside = yaml_beside(options)
+    places = outputs(options)
+    refuse_clashes(options, places[1][0])
     with Tiles(options.folder) as tiles:
         low, high = _box(tiles, options)
         try:
@@ -40,7 +42,7 @@ def run(options):
         except ValueError as why:
             raise Unusable(f"{why} (--area, --height)") from None
         key = tiles.voxels_of(low)[0] + ORIGIN
-        write_grid(options.output, beside, plane, (key, tiles.resolution_nm, None))
+        write_grid(places, plane, (key, tiles.resolution_nm, None), options.force)
     return DONE
 
 

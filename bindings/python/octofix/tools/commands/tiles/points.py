@@ -15,6 +15,7 @@ from ...arguments import add_box, add_output
 from ...errors import DONE
 from ...pointfiles import FORMS, form_of, write_points
 from ...progress import say
+from .. import points
 from .running import add_folder, corners_of, refuse_inside
 
 HELP = "voxels as points: PLY, PCD, XYZ, CSV, .npy"
@@ -26,6 +27,9 @@ def arguments(parser):
     add_box(parser)
     parser.add_argument("--format", choices=FORMS, help="where the name's ending doesn't say it")
     add_output(parser)
+
+
+outputs = points.outputs
 
 
 def run(options):
@@ -40,7 +44,7 @@ def run(options):
             columns = ["x", "y", "z"]
             count = sum(_volume(tiles, it, box) for it in tiles.leaves(*box, kind=options.what))
             pieces = (tiles.centers(it) for it in tiles.voxels(*box, kind=options.what))
-        write_points(options.output, form, columns, count, pieces)
+        write_points(options.output, form, columns, count, pieces, options.force)
     say(f"{count} points ({options.what}) written to {options.output}")
     return DONE
 

@@ -16,6 +16,7 @@ from ...errors import DONE, Unusable
 from ...files import write
 from ...page import page
 from ...progress import say
+from ...standing import PAGE
 from ..view import PAGES
 from .blocks import blocks_of
 from .running import add_folder, corners_of, refuse_inside
@@ -33,6 +34,10 @@ def arguments(parser):
     add_output(parser, "the page, .html", of=Output)
 
 
+def outputs(options):
+    return [(options.output, PAGE)]
+
+
 def run(options):
     refuse_inside(options.folder, options.output)
     if not options.output.lower().endswith(PAGES):
@@ -42,7 +47,7 @@ def run(options):
     if not len(found.leaves):
         raise Unusable("nothing is known there")
     name = os.path.basename(os.path.abspath(options.folder))
-    write(options.output, page(found.leaves, name))
+    write((options.output, PAGE), page(found.leaves, name), options.force)
     if found.depth:
         say(f"blocks of {1 << found.depth} voxels an edge are shown")
     if found.moved.any():
