@@ -9,6 +9,7 @@ are 2 m apart. Behind 80 m the street is the same again: the cloud of a scan is 
 modulo 40. One seed, one street. Needs numpy.
 """
 import os
+import shutil
 import sys
 
 import numpy as np
@@ -76,8 +77,8 @@ def save(folder, scans, columns):
         np.save(f"{folder}/{number:03}.npy", cloud(number, standing, columns))
     for number in range(scans):
         names.append(f"{folder}/{number:05}.scan.npy")
-        if not os.path.lexists(names[-1]):
-            os.symlink(f"{number % PLACES:03}.npy", names[-1])
+        # (a file counts once)
+        shutil.copyfile(f"{folder}/{number % PLACES:03}.npy", names[-1])
     return names
 
 

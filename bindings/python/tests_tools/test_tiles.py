@@ -246,6 +246,7 @@ class Made(InFolder):
         """What says how poses and points lie reaches the workers."""
         words = [*save_drive(3), "--turn", "camera", "--sensor", *"0 1 0 0.6 0 0 0.8".split()]
         words += ["--every", "3", "--voxel", "0.3", "--min-range", "0.5"]
+        words += ["--origin", "1", "-2", "0.5", "--scale", "0.5"]
         self.same(tiles.build("town", words, 0.1, edge=12.8), words)
 
     def test_forms_that_are_asked(self):

@@ -11,7 +11,7 @@ from typing import Any, NamedTuple, Sequence
 import numpy as np
 
 from octofix import Odds
-from octofix.tools.arguments import add_scans
+from octofix.tools.arguments import Input, add_scans
 from octofix.tools.poses import Pose
 from octofix.tools.scans import Scans
 from octofix.tools.setup import scans_of
@@ -23,8 +23,6 @@ from .lattice import Lattice
 
 # Into about how many pieces clouds are parted, and the bytes that a piece has at least and at most.
 CHUNKS, LEAST, MOST = 400, 4 << 20, 64 << 20
-# What options read beside the clouds.
-_BESIDE = ("poses", "times")
 
 
 class Settings(NamedTuple):
@@ -122,15 +120,17 @@ def new_run(number: int) -> str:
 def planned(options: argparse.Namespace, settings: Settings, run: str, version: str) -> Plan:
     """The plan of the clouds that options ask for; Unusable where they can't be used."""
     asked = {it: getattr(options, it) for it in _names() if it not in ("clouds", "quiet")}
-    for it in (*options.clouds, *(asked[it] for it in _BESIDE if asked[it] is not None)):
+    # (what is read beside the clouds)
+    others = [it for it, value in asked.items() if isinstance(value, Input)]
+    for it in (*options.clouds, *(asked[it] for it in others)):
         _expect_file(it)
-    for it in _BESIDE:
-        asked[it] = asked[it] and os.path.abspath(asked[it])
+    for it in others:
+        asked[it] = os.path.abspath(asked[it])
     absolute = argparse.Namespace(**{**asked, "quiet": True})
     absolute.clouds = [os.path.abspath(it) for it in options.clouds]
     scans = scans_of(absolute)
     spelled = {it: _spelled(value) for it, value in asked.items()}
-    beside = {asked[it]: stamp_of(asked[it]) for it in _BESIDE if asked[it]}
+    beside = {asked[it]: stamp_of(asked[it]) for it in others}
     stamps = [stamp_of(it) for it in scans.names]
     chunks = _chunks(scans, [size for size, _ in stamps])
     names, skipped = [str(it) for it in scans.names], scans.skips.count

@@ -258,7 +258,7 @@ def _expect_points(mapper, scans, is_stopped, is_empty_allowed):
         raise KeyboardInterrupt(" before the first scan: nothing is written")
     if not is_empty_allowed:
         said = "no scan has a point, so nothing is written (--allow-empty writes an empty map)"
-        raise Unusable("; ".join([said, *_left_out(scans)]))
+        raise Unusable("; ".join([said, *left_out(scans)]))
 
 
 def _write(mapper, files):
@@ -271,10 +271,11 @@ def _closing_line(mapper, scans):
         counted.append(f"{scans.left.cut} beams cut by --range")
     if mapper.parted:
         counted.append(f"{mapper.parted} of them in parts")
-    return "; ".join([*counted, *_left_out(scans)])
+    return "; ".join([*counted, *left_out(scans)])
 
 
-def _left_out(scans):
+def left_out(scans):
+    """What was left out of scans, in some words each."""
     counted = []
     if scans.skips.count:
         counted.append(f"skipped {scans.skips.count}")

@@ -2,6 +2,7 @@
 
 import contextlib
 import os
+from types import SimpleNamespace
 
 from octofix.tiles import engines, runs, steps
 from octofix.tiles import folder as files
@@ -9,6 +10,8 @@ from octofix.tiles import folder as files
 from ...arguments import add_scans, region, whole
 from ...errors import DONE, SKIPPED, Unusable
 from ...progress import Steps, is_terminal, say
+from ...scans import Left
+from ..map import left_out
 
 KEPT = ": what is done is kept, and the same command goes on with it"
 STEPS = {"part": "pieces of clouds that are parted", "build": "tiles that are made"}
@@ -130,14 +133,7 @@ def _engine(options):
 
 
 def _closing_words(told):
-    left = told["left"]
+    counts = SimpleNamespace(count=told["skipped"])
+    scans = SimpleNamespace(skips=counts, gaps=told["gaps"], left=Left(**told["left"]))
     yield f"{told['scans']} scans of {told['points']} points in {told['tiles']} tiles"
-    if told["skipped"]:
-        yield f"skipped {told['skipped']}"
-    if told["gaps"]:
-        yield f"{told['gaps']} gaps without a pose"
-    if left.get("cut"):
-        yield f"{left['cut']} beams cut by --range"
-    lost = {it: left[it] for it in ("endless", "far", "chosen") if left.get(it)}
-    if lost:
-        yield "left out " + ", ".join(f"{many} points ({it})" for it, many in lost.items())
+    yield from left_out(scans)
