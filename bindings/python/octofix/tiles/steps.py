@@ -218,10 +218,9 @@ def _write_parts(path: str, parted: dict[Place, list[bytes]], told: Told, began:
         pieces.append(b"".join(records))
         tiles[name_of(tile)] = [at, len(pieces[-1]), zlib.crc32(pieces[-1])]
         at += len(pieces[-1])
-    seconds = time.process_time() - began
     table = json.dumps({"tiles": tiles, "told": {**told, "written": at}}).encode()
     files.place(path, b"".join([_HEAD.pack(_MAGIC, len(table)), table, *pieces]))
-    return {**told, "written": at, "seconds": seconds}
+    return {**told, "written": at, "seconds": time.process_time() - began}
 
 
 def _parts(folder: str, run: str, chunk: int) -> str:
