@@ -161,7 +161,10 @@ def add_scans(parser, on_error=STOP_OR_SKIP, is_optional=False):
     )
     clouds.required = not is_optional
     form = parser.add_argument_group("how clouds are read")
-    form.add_argument("--format", choices=[*FORMS], help="where the file doesn't show it")
+    form.add_argument(
+        "--format", choices=[*FORMS], metavar="FORM",
+        help=f"where the file doesn't show it: {', '.join(FORMS)}",
+    )  # fmt: skip
     form.add_argument(
         "--columns", type=columns, metavar="X,Y,Z",
         help="which columns are x, y and z: names or numbers (from 1)",
