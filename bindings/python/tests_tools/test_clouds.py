@@ -331,5 +331,6 @@ class DepthImages(InFolder):
         for bad in (content[:50], content[:20] + b"\xff" * 20 + content[40:], content[:8]):
             ran = self.done(*words, "-", *scaled, given=bad, status=1)
             self.assertRegex(ran.said, r"^octofix: -: it can't be read as a PNG: [^\n]+\n$")
-        with self.assertRaises(ValueError):
-            clouds.read("a.png", camera=(0, 1, 1, 0))
+        for bad in ((0, 1, 1, 0), (1, 1, 1)):
+            with self.assertRaises(ValueError):
+                clouds.read("a.png", camera=bad)
