@@ -65,7 +65,8 @@ def prose(text):
 
 def tag_of(option):
     """The line of a list that names an option and its values."""
-    values = [f"Ar {escaped(it)}" for it in option.values]
+    # (many choices have no room in one line, and are parted behind a bar)
+    values = ["Ar " + escaped(it).replace("|", r"|\:") for it in option.values]
     if not option.names:
         return " ".join([".It", *values, *["..."] * option.takes_more])
     flags = " , ".join(f"Fl {escaped(it[1:])}" for it in option.names)
