@@ -102,6 +102,7 @@ ensure_web() {
     ensure_built octofix "$1"
     web=$place/octofix.wasm
     is_web_built && return
+    expect_kit
     say 'the library is compiled for browsers and Node now'
     run_script wasm.py "$module" "$web" >"$log.web" 2>&1 ||
         fail "$web can't be made; the last lines of $log.web say why"
