@@ -17,6 +17,23 @@ inline void limit_as(map &to, const map &from) {
         to.limit(point_of(window->low, res), point_of(window->high, res));
 }
 
+/// Adds a number to each voxel of a block; while a mark stands by parts of it, of which each has as
+/// many voxels as an edit may have then.
+inline void add_to_block(map &to, const block &it, std::int32_t number) {
+    constexpr std::uint16_t largest_tracked = 10; // 64 x 64 x 64 voxels
+    const settings now = to.settings();
+    if (!now.is_tracked || it.depth >= largest_tracked)
+        return to.edit_box(point_of(low(it), now.res), point_of(high(it), now.res), event::add,
+                           number);
+    for (unsigned i = 0; i < 8; ++i) {
+        const auto part = [&](std::uint16_t b, unsigned axis) {
+            return static_cast<std::uint16_t>(2 * b + (i >> axis & 1));
+        };
+        const auto depth = static_cast<std::uint16_t>(it.depth + 1);
+        add_to_block(to, {depth, part(it.x, 0), part(it.y, 1), part(it.z, 2), 0}, number);
+    }
+}
+
 /// What a scan hits and frees, as a map of its own: occupied is what a beam hits, though others
 /// meet it, and free is what beams meet alone.
 class gathered_scan {
@@ -55,28 +72,12 @@ class gathered_scan {
 
   private:
     static constexpr odds of_scan = {1000000, -1, -1, 1000000, 0};
-    static constexpr std::uint16_t most_tracked_at = 10; // a box of 64 x 64 x 64 voxels
 
     static std::uint64_t count(view<block> blocks) {
         std::uint64_t voxels = 0;
         for (const block &it : blocks) voxels += std::uint64_t{1} << 3 * (16 - it.depth);
         return voxels;
     }
-    static void add_to_block(map &to, const block &it, std::int32_t number) {
-        const settings now = to.settings();
-        if (now.is_tracked && it.depth < most_tracked_at) {
-            for (unsigned i = 0; i < 8; ++i) {
-                const auto part = [&](std::uint16_t b, unsigned axis) {
-                    return static_cast<std::uint16_t>(2 * b + (i >> axis & 1));
-                };
-                const auto depth = static_cast<std::uint16_t>(it.depth + 1);
-                add_to_block(to, {depth, part(it.x, 0), part(it.y, 1), part(it.z, 2), 0}, number);
-            }
-            return;
-        }
-        to.edit_box(point_of(low(it), now.res), point_of(high(it), now.res), event::add, number);
-    }
-
     map own_;
     std::uint64_t parts_ = 0;
 };

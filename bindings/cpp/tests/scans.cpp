@@ -70,7 +70,7 @@ void try_parts() {
     }
 }
 
-/// The changes since a mark are those of one scan; large blocks that it frees are no hindrance.
+/// The changes since a mark are those of one scan.
 void try_marks() {
     const auto points = cloud();
     octofix::map whole(0.1), parted(0.1, octofix::default_odds, few_cells);
@@ -85,6 +85,23 @@ void try_marks() {
         EXPECT(one[i].key.x == other[i].key.x && one[i].key.z == other[i].key.z &&
                one[i].kind == other[i].kind);
     EXPECT(parted.settings().is_tracked && whole.snapshot() == parted.snapshot());
+}
+
+/// A block of more voxels than an edit may have while a mark stands is done by its parts.
+void try_large_blocks() {
+    octofix::map world(0.1);
+    world.track();
+    const octofix::block large = {9, 256, 256, 256, 0}; // 128 voxels a side
+    try {
+        world.edit_box(metres(0, 0, 0), metres(12.75, 12.75, 12.75), octofix::event::add, -400);
+        EXPECT(false);
+    } catch (const octofix::refused &error) {
+        EXPECT(error.code() == OCTOFIX_WIDE_WHILE_TRACKED);
+    }
+    octofix::detail::add_to_block(world, large, -400);
+    const auto leaves = world.leaves();
+    EXPECT(leaves.size() == 1 && leaves[0].depth == 9 && leaves[0].x == 256);
+    EXPECT(leaves[0].value == -400);
 }
 
 /// What is refused leaves the map as it was, and has the index of the whole scan.
@@ -145,6 +162,7 @@ void try_turns() {
 int main() {
     try_parts();
     try_marks();
+    try_large_blocks();
     try_refusals();
     try_turns();
     std::printf("scans: %d failed\n", failed);
