@@ -9,6 +9,7 @@ import octofix
 FEWEST = 50  # points, below which no floor is looked for
 FEWEST_OF_PLANE = 10
 TRIES = 200  # planes through three points each
+MOST_ASKED = 5000  # points by which it is judged how many are near to a plane
 # The voxels around one.
 AROUND = np.array(
     [(x, y, z) for x in (-1, 0, 1) for y in (-1, 0, 1) for z in (-1, 0, 1) if x or y or z]
@@ -53,17 +54,17 @@ class Ground(NamedTuple):
         with np.errstate(invalid="ignore", divide="ignore"):
             normals /= np.linalg.norm(normals, axis=1)[:, None]
             is_level = np.abs(normals[:, 2]) >= math.cos(self.angle)
-        best = None
-        for normal, start in zip(normals[is_level], a[is_level]):
-            inside = self._near(points, normal, -normal @ start)
-            if best is None or inside.sum() > best.sum():
-                best = inside
-        if best is None:
+        planes = [(it, -it @ start) for it, start in zip(normals[is_level], a[is_level])]
+        if not planes:
             return None
-        middle = points[best].mean(axis=0)
-        normal = np.linalg.eigh(np.cov((points[best] - middle).T))[1][:, 0]
-        inside = self._near(points, normal, -normal @ middle)
-        return (inside, -normal @ middle) if inside.any() else None
+        some = points[:: len(points) // MOST_ASKED + 1]
+        best = max(planes, key=lambda it: self._near(some, *it).sum())
+        inside = self._near(points, *best)
+        middle = points[inside].mean(axis=0)
+        normal = np.linalg.eigh(np.cov((points[inside] - middle).T))[1][:, 0]
+        offset = -normal @ middle
+        inside = self._near(points, normal, offset)
+        return (inside, offset) if inside.any() else None
 
     def _near(self, points, normal, offset):
         return np.abs(points @ normal + offset) <= self.distance
