@@ -266,7 +266,7 @@ class Arguments(unittest.TestCase):
 
         rounds, bytes_more, objects_more = 40, [], []
         do_all(rounds)
-        for _ in range(3):
+        for _ in range(5):
             gc.collect()
             before, objects = used(), sys.getallocatedblocks()
             do_all(rounds)
