@@ -83,6 +83,15 @@ class Jobs(InFolder):
             for jobs in (2, 3, 7, 0):
                 self.assertEqual(self.map(jobs, *words, status=status), wanted)
 
+    def test_a_log_by_its_content(self):
+        """Each node is a scan of its own, whatever the name says."""
+        with open("drive.txt", "w") as file:
+            file.write("NODE 0 0 0 0 0 0\n1 0 0\nNODE 5 0 0 0 0 0\n1 2 0\n")
+        for jobs in (1, 2):
+            self.done("map", "--res", 1, "--jobs", jobs, "drive.txt", "-o", f"{jobs}.bt")
+            with Map.from_bt(f"{jobs}.bt") as world:
+                self.assertEqual(world.classes([[1, 0, 0], [6, 2, 0]]).tolist(), [2, 2])
+
     def test_what_is_said(self):
         """Of clouds that have no pose, can't be read or say where they stood: as by one thread."""
         save_drive(np.random.default_rng(1))

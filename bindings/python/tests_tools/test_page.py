@@ -190,7 +190,7 @@ class WithoutAMap(InFolder):
             self.refused(said, "view", "-o", "a.html")
             for name in ("viewer-unproved.html", "viewer.html"):
                 Path(name).write_text(name)
-                self.done("view", "-o", "a.html")
+                self.done("view", "-o", "a.html", "--force")
                 self.assertEqual(Path("a.html").read_text(), name)
 
     def test_words_for_a_map(self):

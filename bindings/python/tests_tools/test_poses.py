@@ -619,7 +619,7 @@ class Unit(InFolder):
         said = "all its 2 beams are longer than --range 8 m, as where the unit is another "
         said = f"mm.xyz: {said}(--scale 0.001 for millimetres, --scale 1 for metres)"
         for words in ([], ["--jobs", 2], ["--every", 1], ["m.xyz"]):
-            self.refused(said, *self.WORDS, *words, "mm.xyz")
+            self.refused(said, *self.WORDS, *words, "mm.xyz", "--on-error", "stop")
         self.assertFalse(os.path.exists("a.bt"))
         self.refused(said, "check", DATA / "five_scans.bt", "--range", 8, "mm.xyz")
         ran = self.done(*self.WORDS, "mm.xyz", "--scale", "0.001")
@@ -643,7 +643,7 @@ class Unit(InFolder):
     def test_tiles(self):
         words = ["tiles", "build", "tiles", "--res", 0.1, "--edge", 12.8, "--range", 8]
         ran = self.done(*words, "mm.xyz", "m.xyz", "--on-error", "skip", status=3)
-        self.assertIn("; 1 beams cut by --range\n", ran.said)
+        self.assertIn("; 1 beams cut by --range; skipped 1\n", ran.said)
         self.assertIn("/mm.xyz: all its 2 beams are longer", ran.said)
 
     def test_no_beam(self):

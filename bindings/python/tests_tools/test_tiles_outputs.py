@@ -110,8 +110,9 @@ class Outputs(InFolder):
 
     def test_nothing_there(self):
         tiles.create("none", 0.1).close()
-        said = self.done("tiles", "crop", "none", "-o", "a.bt").said
-        self.assertEqual(said, "octofix: nothing is known there: the map that is written is empty\n")
+        said = "nothing is known there, so nothing is written (--allow-empty writes an empty map)"
+        self.refused(said, "tiles", "crop", "none", "-o", "a.bt")
+        self.done("tiles", "crop", "none", "-o", "a.bt", "--allow-empty")
         self.refused("nothing is known there", "tiles", "view", "none", "-o", "a.html")
         said = "none: nothing is known there, so it has no extent"
         self.refused(said, "tiles", "grid", "none", "-o", "a.pgm")

@@ -333,8 +333,8 @@ class Faults(Runs):
 
     def test_an_output_among_the_tiles(self):
         self.build()
-        said = "town/index.json: it would be written among the files of the tiles"
-        self.refused(said, "tiles", "crop", "town", "-o", "town/index.json")
+        said = "town/all.bt: it would be written among the files of the tiles"
+        self.refused(said, "tiles", "crop", "town", "-o", "town/all.bt")
 
     def test_a_full_disk(self):
         """At each file that is written: the index stays, and the same goes on."""

@@ -1,5 +1,5 @@
 //! Trees of a few leaves.
-ghost use Rattle.std.specs.Prelude.{◌≡◌, ◌<◌, ◌≤◌, None};
+ghost use Rattle.std.specs.Prelude.{◌≡◌, ◌<◌, ◌≤◌, None, IfOk};
 ghost use Rattle.oct_odds.specs.Odds.{odds_of, IsSmall};
 ghost use Rattle.oct_odds.specs.Update.{IsWithin};
 ghost use Rattle.oct_arena.specs.Nodes.{link_of, value_of};
@@ -24,7 +24,9 @@ pub(crate) fn leaf(odds: OddsModel, value: i32) -> Node
 }
 
 /// The unknown world, in voxels of a tenth of a metre.
-pub(crate) fn unknown_world(alloc: Global) -> Result<OccTree, Fail> {
+pub(crate) fn unknown_world(alloc: Global) -> Result<OccTree, Fail>
+    ensures plain { IfOk result (λ tree. link_of tree.root ≡ None) }
+{
     let res = Res::new(100_000_000)?;
     Ok(OccTree::new(alloc, res, OddsModel::default()))
 }

@@ -196,8 +196,10 @@ class _Round:
             while self.left:
                 self._take(self._wait())
         finally:
-            for it in self.waiting:
-                it.cancel()
+            # (a pool of processes cancels by itself, and falls over what others cancelled)
+            if not isinstance(self.executor, futures.ProcessPoolExecutor):
+                for it in self.waiting:
+                    it.cancel()
 
     def _submit(self, job: Any) -> None:
         try:

@@ -2,12 +2,11 @@
 
 import contextlib
 import copy
-import re
 from dataclasses import dataclass
 
 import numpy as np
 
-from .clouds import clouds_again, clouds_in
+from .clouds import clouds_again, clouds_in, has_many
 from .errors import Unusable
 from .lengths import FARTHEST, NANO, nanometres
 from .poses import IDENTITY, Pose
@@ -79,13 +78,13 @@ class Scans:
         self.names, self.reading, self.trajectory = names, reading, trajectory
         self.skips, self.frames, self.choice = skips, frames, choice
         self.left, self.gaps, self.clouds = Left(), 0, 0
-        self.said, self.is_quiet = set(), is_quiet
+        self.said, self.is_quiet, self._is_one_each = set(), is_quiet, None
 
     def is_one_each(self):
-        """Whether each file has one cloud, as far as names tell."""
-        is_many = re.compile(r"\.(bag|log|graph)(\.gz)?$")
-        forms = {"bag", "log", "graph"}
-        return self.reading.form not in forms and not any(map(is_many.search, self.names))
+        """Whether each file has one cloud."""
+        if self._is_one_each is None:
+            self._is_one_each = not any(has_many(it, self.reading.form) for it in self.names)
+        return self._is_one_each
 
     def __iter__(self):
         yield from self.of_files(0, len(self.names))

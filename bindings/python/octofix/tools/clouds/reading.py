@@ -1,12 +1,14 @@
 """Which reader takes a file."""
 
 import contextlib
+import gzip
 import os
 import re
+import zlib
 from dataclasses import dataclass, field
 
 from ..errors import Unusable, failing_as
-from ..files import read_bytes
+from ..files import GZIP, read_bytes
 from ..kinds import LAS, ROS_BAG, refuse_empty, refuse_unread
 from . import archives, arrays, bags, depth, graph, las, nodes, pcd, ply, pts, records, text
 from .records import Records
@@ -40,6 +42,8 @@ SIGNS = [
     # (each blank and each comment can be taken in one way alone, else this takes for ever)
     (rb"\s*(#[^\n]*\n\s*)*(?<![^\S\n])NODE\s", "log"),
 ]
+# Of so many bytes the form is known.
+HEAD = 1 << 16
 BIN = r"\.bin(\.gz)?$"
 ENDINGS = [
     (BIN, "bin"),
@@ -68,9 +72,28 @@ class Reading:
 
 def form_of(name, content):
     """The form of a file by its first bytes, or else its name; text where neither says."""
-    found = next((form for sign, form in SIGNS if re.match(sign, content[:65536])), None)
+    found = next((form for sign, form in SIGNS if re.match(sign, content[:HEAD])), None)
     by_name = (form for ending, form in ENDINGS if re.search(ending, name.lower()))
     return found or next(by_name, "text")
+
+
+def has_many(name, form=None):
+    """Whether a file may have several clouds, by the form that is asked, its first bytes or its
+    name; of what isn't an ordinary file by its name alone."""
+    return (form or form_of(name, _head_of(name))) in ("log", "graph", "bag")
+
+
+def _head_of(name):
+    """The first bytes of a file, unpacked where it is gzip's; none where it can't be read."""
+    if not os.path.isfile(name):
+        return b""
+    with contextlib.suppress(OSError, EOFError, zlib.error), open(name, "rb") as file:
+        head = file.read(HEAD)
+        if not head.startswith(GZIP):
+            return head
+        file.seek(0)
+        return gzip.GzipFile(fileobj=file).read(HEAD)
+    return b""
 
 
 def is_bin(name):

@@ -136,4 +136,6 @@ def _closing_words(told):
     counts = SimpleNamespace(count=told["skipped"])
     scans = SimpleNamespace(skips=counts, gaps=told["gaps"], left=Left(**told["left"]))
     yield f"{told['scans']} scans of {told['points']} points in {told['tiles']} tiles"
+    if scans.left.cut:
+        yield f"{scans.left.cut} beams cut by --range"
     yield from left_out(scans)
