@@ -29,6 +29,8 @@ import suites  # noqa: E402
 
 # What is shown of a suite that failed.
 SHOWN = 200
+# How many seconds of the clock a suite may take; those of a night as many times more.
+MOST, NIGHTS = 1800, 10
 NAMES = {it.name: it for it in suites.SUITES}
 
 
@@ -36,8 +38,9 @@ class Runs:
     """The processes of the suites that run, each with all that it starts, so that they end with
     this one."""
 
-    def __init__(self):
+    def __init__(self, most):
         self.groups, self.lock, self.are_over = set(), threading.Lock(), False
+        self.most = most
 
     def run(self, words, said):
         """Runs a command with its output in a file, and returns its status."""
@@ -47,7 +50,12 @@ class Runs:
                 return 1
             ran = subprocess.Popen(words, stderr=subprocess.STDOUT, **how)
             self.groups.add(ran.pid)
-        status = ran.wait()
+        try:
+            status = ran.wait(timeout=self.most)
+        except subprocess.TimeoutExpired:
+            said.write(b"it took too long, and was ended\n")
+            os.killpg(ran.pid, signal.SIGTERM)
+            status = ran.wait() or 1
         with self.lock:
             self.groups.discard(ran.pid)
         return status
@@ -152,7 +160,8 @@ def run_all(found, given, room):
     """Runs the suites, and returns whether all passed."""
     skipped = [it for it in found if it.only_proved and given.unproved]
     found = [it for it in found if it not in skipped]
-    places, runs, failed = places_for(found, given, room), Runs(), []
+    runs = Runs(MOST * (NIGHTS if given.nightly else 1))
+    places, failed = places_for(found, given, room), []
     left_out = [(1, f"{it.name}, which is of a proved build") for it in skipped]
     with ThreadPoolExecutor(given.jobs) as pool:
         try:

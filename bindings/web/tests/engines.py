@@ -20,6 +20,8 @@ import browser  # noqa: E402
 NODE = "node"
 FLAG = "--experimental-wasm-memory64"
 LEAST_NODE = 20
+# How long Node may take for the calls that it is asked for, in seconds.
+PATIENCE = 300
 # What a module's function answers, of where files are (`at`) and more words.
 ASK = "import({module}).then(it => it.{function}({at}, ...{words}))"
 
@@ -53,10 +55,19 @@ class InNode:
             words=json.dumps(words),
         )  # fmt: skip
         text = f"{asked}.then(it => console.log(JSON.stringify(it ?? null)))"
-        ran = subprocess.run([*node(), "--expose-gc", "-e", text], capture_output=True, text=True)
+        ran = self._run([*node(), "--expose-gc", "-e", text])
         if ran.returncode:
             raise AssertionError(ran.stderr)
         return json.loads(ran.stdout.splitlines()[-1])
+
+    def _run(self, words):
+        """Runs Node, and once more where it doesn't end: Node 20 was seen to wait for itself for
+        ever as it began, once in some ten starts."""
+        how = {"capture_output": True, "text": True, "timeout": PATIENCE}
+        try:
+            return subprocess.run(words, **how)
+        except subprocess.TimeoutExpired:
+            return subprocess.run(words, **how)
 
     def close(self):
         pass
