@@ -184,6 +184,7 @@ def run_all(found, given, room):
 def main(words):
     given = parsed(words)
     if given.list:
+        signal.signal(signal.SIGPIPE, signal.SIG_DFL)
         print_table()
         return 0
     with tempfile.TemporaryDirectory() as room:
