@@ -4,9 +4,9 @@ from pathlib import Path
 ROOT = Path(__file__).resolve().parents[2]
 
 
-def lines():
-    """The line of each crate in crates.txt, by its name."""
-    text = (ROOT / "crates.txt").read_text().splitlines(keepends=True)
+def lines(root=ROOT):
+    """The line of each crate in the crates.txt of a clone, by the crate's name."""
+    text = (root / "crates.txt").read_text().splitlines(keepends=True)
     return {it.split(":")[0].split()[0]: it for it in text if it.strip() and it[0] != "#"}
 
 
