@@ -6,7 +6,7 @@ import numpy as np
 
 import octofix
 from octofix.tools import planes
-from octofix.tools.leaves import FREE, OCCUPIED, ORIGIN, UNKNOWN, Leaves, overlay
+from octofix.tools.leaves import FREE, OCCUPIED, ORIGIN, UNKNOWN, Leaves, table_of
 from octofix.tools.morton import decode, encode
 
 EDGE = 12
@@ -52,10 +52,10 @@ def merged(leaves):
     return leaves
 
 
-def array_of(leaves):
-    """The voxels of leaves again, one by one."""
+def array_of(leaves, *box):
+    """The voxels of leaves again, one by one, or those in a box of keys."""
     array = np.zeros((EDGE, EDGE, EDGE), int)
-    for codes, classes in leaves.blocks(chunk=100):
+    for codes, classes in leaves.blocks(*box, chunk=100):
         array[tuple((decode(codes) - LOW).T)] = classes
     return array
 
@@ -77,15 +77,38 @@ class AgainstVoxels(unittest.TestCase):
             np.testing.assert_array_equal(came, classes.reshape(-1))
         self.assertLess(len(leaves), 700)
 
+    def boxed(self, classes):
+        """A random box, as keys, and the classes in it alone."""
+        low = self.random.integers(0, EDGE, 3)
+        high = np.minimum(low + self.random.integers(0, EDGE, 3), EDGE - 1)
+        inside = np.zeros_like(classes)
+        box = tuple(slice(a, b + 1) for a, b in zip(low, high))
+        inside[box] = classes[box]
+        return (low + LOW, high + LOW), inside
+
     def test_within(self):
         for classes in self.cases:
-            low = self.random.integers(0, EDGE, 3)
-            high = np.minimum(low + self.random.integers(0, EDGE, 3), EDGE - 1)
-            part = leaves_of(classes).within(low + LOW, high + LOW)
-            inside = np.zeros_like(classes)
-            box = tuple(slice(a, b + 1) for a, b in zip(low, high))
-            inside[box] = classes[box]
+            box, inside = self.boxed(classes)
+            part = leaves_of(classes).within(*box)
             np.testing.assert_array_equal(array_of(part), inside)
+
+    def test_blocks_in_a_box(self):
+        for classes in self.cases:
+            box, inside = self.boxed(classes)
+            leaves = leaves_of(classes).meeting(*box)
+            came = array_of(leaves, *box)
+            np.testing.assert_array_equal(came, inside)
+            self.assertEqual(leaves.count_in(*box), (inside != UNKNOWN).sum())
+            self.assertEqual(leaves.count(FREE, *box), (inside == FREE).sum())
+            # (a greater one counts where it meets the box)
+            coarse = leaves_of(classes).coarse(15).meeting(*box)
+            found = [codes for codes, _ in coarse.blocks(*box, 15, chunk=7)]
+            blocks = {tuple(it) for it in (decode(np.concatenate([[], *found]).astype(int)) >> 1)}
+            low, high = (it >> 1 for it in box)
+            keys = (np.argwhere(classes != UNKNOWN) + LOW) >> 1
+            wanted = keys[((keys >= low) & (keys <= high)).all(axis=1)]
+            self.assertEqual(blocks, {tuple(it) for it in wanted})
+            self.assertEqual(coarse.count_in(*box, 15), len(blocks))
 
     def test_coarse(self):
         for classes in self.cases:
@@ -100,9 +123,11 @@ class AgainstVoxels(unittest.TestCase):
             for axis in range(3):
                 for step in (-1, 1):
                     is_open |= np.roll(around, step, axis)[1:-1, 1:-1, 1:-1] == UNKNOWN
-            came = np.zeros(classes.shape, bool)
-            came[tuple((decode(leaves_of(classes).frontier()) - LOW).T)] = True
-            np.testing.assert_array_equal(came, is_open & (classes == FREE))
+            box, inside = self.boxed(classes)
+            for words, free in (((), classes == FREE), (box, inside == FREE)):
+                came = np.zeros(classes.shape, bool)
+                came[tuple((decode(leaves_of(classes).frontier(*words)) - LOW).T)] = True
+                np.testing.assert_array_equal(came, is_open & free)
 
     def test_planes(self):
         low, high = np.full(3, LOW), np.full(3, LOW + EDGE - 1)
@@ -117,13 +142,16 @@ class AgainstVoxels(unittest.TestCase):
             came = planes.heights(leaves.of_class(OCCUPIED), low, high)
             np.testing.assert_array_equal(came, tops.T)
 
-    def test_overlay(self):
-        for first, second in zip(self.cases, self.cases[1:]):
-            volumes, *classes = overlay(leaves_of(first), leaves_of(second))
-            for a, b in np.ndindex(3, 3):
-                if (a, b) != (UNKNOWN, UNKNOWN):
-                    came = volumes[(classes[0] == a) & (classes[1] == b)].sum()
-                    self.assertEqual(came, ((first == a) & (second == b)).sum())
+    def test_table(self):
+        empty = np.zeros_like(self.cases[0])
+        for first, second in zip([empty, *self.cases], [*self.cases, empty]):
+            (low, high), inside = self.boxed(first)
+            box = tuple(slice(a, b + 1) for a, b in zip(low - LOW, high - LOW))
+            for words, part in (((), ...), ((low, high), box)):
+                came = table_of(leaves_of(first), leaves_of(second), *words)
+                for a, b in np.ndindex(3, 3):
+                    wanted = ((first[part] == a) & (second[part] == b)).sum() * (a + b > 0)
+                    self.assertEqual(came[a, b], wanted)
 
 
 class Codes(unittest.TestCase):

@@ -8,6 +8,7 @@ from running import DATA, OLD_MAP, InFolder, save_map
 
 from octofix import Map
 from octofix.tools.leaves import Leaves
+from octofix.tools.morton import encode
 
 
 class LargeBlocks(InFolder):
@@ -59,6 +60,63 @@ class LargeBlocks(InFolder):
                 for words in (["-o", "a.html"], ["--oblique", "-o", "a.png"]):
                     self.done("view", "free.bt", *words, *self.box(half + 0.01), "--force")
         self.assertLess(max(made), 1 << 12)
+
+    def test_compare(self):
+        """A box of 1000 m half an edge, in which the block of 64 m is cut at 51.2 m and before 0.02
+        m; nothing is cut for it."""
+        with Map(0.05) as world:
+            world.edit_box((0, 0, 0), (819.15, 819.15, 819.15), 1, -400)
+            world.save("part.bt")
+        box = ["--box", 0.06, 0.06, 0.06, 900, 900, 900]
+        with mock.patch.object(Leaves, "children", side_effect=AssertionError), \
+             mock.patch("octofix.tools.commands.compare.MOST_VOXELS", 0):  # fmt: skip
+            found = json.loads(self.done("compare", "free.bt", "part.bt", *box, "--json").output)
+        occupied, known, whole = 1023**3, 16383**3, 18000**3
+        wanted = {
+            "unknown": {"free": 0, "occupied": 0},
+            "free": {"unknown": whole - known, "free": known - occupied, "occupied": 0},
+            "occupied": {"unknown": 0, "free": occupied, "occupied": 0},
+        }
+        self.assertEqual(found["table"], wanted)
+
+    def test_points(self):
+        """A row of voxels through the block."""
+        box = ["--box", -100, 0.01, 0.01, 100, 0.01, 0.01]
+        with mock.patch.object(Leaves, "children", side_effect=AssertionError):
+            self.done("points", "free.bt", *box, "-o", "a.npy")
+            self.done("points", "free.bt", *box, "-o", "b.npy", "--what", "free")
+        occupied, free = np.arange(1024), np.r_[-2000:0, 1024:2001]
+        for name, steps in (("a.npy", occupied), ("b.npy", free)):
+            points = np.load(name)
+            np.testing.assert_allclose(np.sort(points[:, 0]), (steps + 0.5) * 0.05)
+            np.testing.assert_allclose(points[:, 1:], 0.025)
+
+    def test_frontier(self):
+        """Of a half that is free, in a box: no more is looked at than lies near to it."""
+        with Map(0.05) as world:
+            world.edit_box((-1638.4,) * 3, (-0.01, 1638.39, 1638.39), 1, -400)
+            world.save("half.bt")
+        looked, words = [], ["--what", "frontier", *self.box(9)]
+
+        def counted(keys):
+            looked.append(len(keys))
+            return encode(keys)
+
+        with mock.patch("octofix.tools.leaves.encode", counted):
+            self.done("points", "half.bt", *words, "-o", "a.npy")
+        points = np.load("a.npy")
+        self.assertEqual((len(points), {*points[:, 0]}), (361**2, {-0.025}))
+        self.assertLess(max(looked), 1 << 18)
+
+    def test_points_of_too_many_parts(self):
+        with mock.patch("octofix.tools.commands.points.MOST_PARTS", 400):
+            words = ["--what", "leaves", *self.box(1.01)]
+            ran = self.done("points", "free.bt", *words, "-o", "a.npy")
+        said = "the box ends with blocks of depth 14: it cuts off too many parts of large ones"
+        self.assertIn(f"octofix: {said}\n", ran.said)
+        rows = np.load("a.npy")
+        self.assertEqual((rows[:, 0] - rows[:, 3] / 2).min(), -1.2)
+        self.assertEqual((rows[:, 3] ** 3).sum().round(6), round(2.4**3, 6))
 
     def test_from_above(self):
         """The occupied quarter is coloured, and the others are pale; no block is cut."""

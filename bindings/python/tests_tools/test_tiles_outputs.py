@@ -10,7 +10,8 @@ import numpy as np
 from driving import content_of, save_drive
 from running import InFolder, octofix
 
-from octofix import VoxelClass, tiles
+from octofix import Box, Map, VoxelClass, tiles
+from octofix.tiles import trees
 from octofix.tools import maps, morton, page
 from octofix.tools.commands.tiles import blocks
 
@@ -98,6 +99,23 @@ class Outputs(InFolder):
             near = blocks.blocks_of(town, [(4_999_990, -5, -5), (5_000_010, 5, 5)], 0)
             self.assertGreater(near.moved[0], 0)
             self.assertGreater(len(page.page(near.leaves, "far")), 1000)
+
+    def test_large_blocks(self):
+        """A tile of 16,384 voxels an edge that is free throughout: no block of it is parted by a
+        box, and no more voxels are listed at once than may be."""
+        low, high = np.array([-5001, 1, 2]), np.array([4999, 200, 2])
+        with Map(0.1) as world, tiles.create("large", 0.1, edge=1638.4) as town:
+            world.edit_box((-819.2,) * 3, (819.1,) * 3, 1, -400)
+            town._entries, town._map = {(0, 0, 0): None}, lambda tile: world
+            corners = [(it + 0.5) / 10 for it in (low, high)]
+            with mock.patch.object(trees.Leaves, "_children", side_effect=AssertionError):
+                part, shift = town.to_map(*corners)
+                sizes = [len(it) for it in town.voxels(*corners, kind="free")]
+            with part:
+                self.assertEqual(part.bounds(), Box(*(tuple(it + 32768) for it in (low, high))))
+                self.assertEqual(len(part.voxels("free")), 10001 * 200)
+        self.assertEqual((shift.tolist(), sum(sizes)), ([0, 0, 0], 10001 * 200))
+        self.assertLessEqual(max(sizes), 1 << 20)
 
     def test_info(self):
         found = json.loads(self.done("tiles", "info", self.folder, "--json").output)

@@ -7,7 +7,7 @@ from typing import Callable, Iterator, Optional, Tuple
 
 import numpy as np
 
-from octofix import Map, Refused
+from octofix import Event, Map, Refused
 
 from .errors import BadTiles
 from .lattice import HALF, NANO, Ints, Lattice, Place, grouped
@@ -33,20 +33,33 @@ def map_of(
 ) -> tuple[Map, Ints]:
     """The map of what tiles know in the box of two voxels, or of all, and by how many voxels it is
     moved towards its origin: 0 where all fits there."""
-    lattice, cubes = settings.lattice(), {}
+    lattice, cubes, cut = settings.lattice(), {}, []
     half = lattice.side // 2
     for tile in tiles:
         leaves = leaves_of(map_of_tile(tile), lattice, tile)
-        cubes.update(_cubes_of(leaves if box is None else leaves.within(*box), lattice))
-    shift = _shift_of(np.array([*cubes], np.int64).reshape(-1, 3), HALF // half)
+        if box is not None:
+            leaves, more = leaves.inside(*box)
+            cut.append(more)
+        cubes.update(_cubes_of(leaves, lattice))
+    places = [np.array([*cubes], np.int64).reshape(-1, 3), *(it.lows // half for it in cut)]
+    shift = _shift_of(np.concatenate(places), HALF // half)
     world = _new_map(settings)
     try:
         for snapshot in _snapshots(settings, cubes, shift):
             _take_in(world, snapshot, settings)
+        for it in cut:
+            _set(world, *it.clipped(*box), it.values, shift * half)
     except Refused as refused:
         world.close()
         raise BadTiles(f"the box has more than a map can have ({refused})") from None
     return world, shift * half
+
+
+def _set(world: Map, firsts: Ints, lasts: Ints, values: np.ndarray, shift: Ints) -> None:
+    """Gives the voxels of each box of voxels of the world a value, in a map that is moved."""
+    edge = world.resolution_nm
+    lows, highs = ((it - shift) * edge + edge // 2 for it in (firsts, lasts))
+    world._edit_boxes(lows, highs, int(Event.SET), values.astype(np.int64))
 
 
 def _cubes_of(leaves: Leaves, lattice: Lattice) -> dict[Place, bytes]:
@@ -110,13 +123,3 @@ def _take_in(world: Map, snapshot: bytes, settings: Settings) -> None:
 
 def _new_map(settings: Settings) -> Map:
     return Map(settings.resolution / NANO, **settings.odds._asdict(), max_groups=MOST_GROUPS)
-
-
-def voxels_in(leaves: Leaves, most: int) -> Iterator[Ints]:
-    """The voxels of leaves, about so many at once, or those of one leaf."""
-    for edge in np.unique(leaves.edges).tolist():
-        lows = leaves.lows[leaves.edges == edge]
-        steps = np.indices((edge,) * 3).reshape(3, -1).T
-        few = max(most // len(steps), 1)
-        for start in range(0, len(lows), few):
-            yield (lows[start : start + few, None] + steps).reshape(-1, 3)

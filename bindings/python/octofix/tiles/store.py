@@ -10,6 +10,7 @@ import numpy.typing as npt
 
 from octofix import UNKNOWN, BadPoints, Casts, Map, Odds, VoxelClass
 from octofix.tools.lengths import FARTHEST, nanometres
+from octofix.tools.voxels import in_boxes
 
 from . import casting, engines, folder as files, given, parts, runs, steps
 from .cache import Cache
@@ -242,9 +243,8 @@ class Tiles:
         some million at most, (n, 3)."""
         box = self._box_or_all(low, high)
         for leaves in self.leaves(low, high, kind):
-            if box is not None:
-                leaves = leaves.within(*box)
-            yield from parts.voxels_in(leaves, PIECE)
+            ends = (leaves.lows, leaves.ends()) if box is None else leaves.clipped(*box)
+            yield from (found for _, found in in_boxes(*ends, PIECE))
 
     # -- maps of parts
 

@@ -30,15 +30,29 @@ class Leaves(NamedTuple):
     def select(self, rows) -> Leaves:
         return Leaves(self.lows[rows], self.edges[rows], self.values[rows])
 
+    def ends(self) -> Ints:
+        """The highest voxel of each block, (n, 3)."""
+        return self.lows + self.edges[:, None] - 1
+
+    def clipped(self, low, high) -> tuple[Ints, Ints]:
+        """The lowest and the highest voxel that each block has in the box of two voxels, (n, 3)
+        each."""
+        return np.maximum(self.lows, low), np.minimum(self.ends(), high)
+
+    def inside(self, low, high) -> tuple[Leaves, Leaves]:
+        """Those that lie in the box of two voxels whole, and those of which a part does."""
+        ends = self.ends()
+        meets = ((self.lows <= high) & (ends >= low)).all(axis=1)
+        is_inside = ((self.lows >= low) & (ends <= high)).all(axis=1)
+        return self.select(is_inside), self.select(meets & ~is_inside)
+
     def within(self, low, high) -> Leaves:
         """The parts in the box of two voxels, both included, in no order."""
         left, found = self, []
         while len(left.edges):
-            ends = left.lows + left.edges[:, None] - 1
-            meets = ((left.lows <= high) & (ends >= low)).all(axis=1)
-            is_inside = meets & ((left.lows >= low) & (ends <= high)).all(axis=1)
-            found.append(left.select(is_inside))
-            left = left.select(meets & ~is_inside)._children()
+            whole, left = left.inside(low, high)
+            found.append(whole)
+            left = left._children()
         return Leaves(*map(np.concatenate, zip(self.select(slice(0)), *found)))
 
     def _children(self) -> Leaves:

@@ -3,8 +3,9 @@
 import numpy as np
 
 from .errors import Unusable
-from .leaves import ORIGIN
+from .leaves import ORIGIN, VOXELS
 from .lengths import NANO, nanometres
+from .progress import say
 
 
 def keys_of(points, resolution):
@@ -22,6 +23,16 @@ def box_of(corners, resolution, options="--box"):
     if (low > high).any():
         raise Unusable(f"the box lies outside the map ({options})")
     return low, high
+
+
+def border_of(leaves, box, most, depth=VOXELS):
+    """A box of keys, or the least one around it of blocks of this depth; of greater ones, which is
+    said, where it cuts more than about so many parts off the leaves."""
+    *box, deepest = leaves.border_of(*box, most, depth)
+    if deepest < depth:
+        said = "it cuts off too many parts of large ones"
+        say(f"the box ends with blocks of depth {deepest}: {said}")
+    return box
 
 
 def lowest(keys, resolution):

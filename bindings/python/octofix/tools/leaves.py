@@ -6,6 +6,7 @@ import numpy as np
 
 from .lengths import NANO
 from .morton import decode, encode
+from .voxels import in_boxes, volumes
 
 UNKNOWN, FREE, OCCUPIED = 0, 1, 2
 NAMES = ("unknown", "free", "occupied")
@@ -59,9 +60,13 @@ class Leaves:
         """The lowest key of each block, (n, 3)."""
         return decode(self.codes)
 
-    def count(self, one):
-        """The voxels of a class."""
-        return int(self.volumes()[self.classes == one].sum())
+    def count(self, one, low=0, high=HIGHEST):
+        """The voxels of a class, all of them or those in a box of keys."""
+        return int(self.volumes_in(low, high)[self.classes == one].sum())
+
+    def volumes_in(self, low, high):
+        """The voxels that each block has in the box of these keys."""
+        return volumes(*self.clipped(low, high))
 
     def box(self, low=0, high=HIGHEST):
         """The lowest and the highest key of all blocks, or of their parts in a box of keys that
@@ -78,6 +83,15 @@ class Leaves:
         at = np.searchsorted(self.codes, codes, "right") - 1
         last = self.codes + self.volumes() - 1
         return np.where((at >= 0) & (codes <= last[at]), self.classes[at], UNKNOWN).astype(np.int8)
+
+    def holders_of(self, others, levels=0):
+        """The number of the block, so many levels higher at least, that holds each one of others
+        whole, or -1."""
+        if not len(self):
+            return np.full(len(others), -1)
+        at = np.searchsorted(self.codes, others.codes, "right") - 1
+        is_held = (at >= 0) & (others.codes < (self.codes + self.volumes())[at])
+        return np.where(is_held & (self.depths[at] + levels <= others.depths), at, -1)
 
     def known_before(self, codes):
         """How many known voxels have smaller codes than each of these."""
@@ -120,13 +134,12 @@ class Leaves:
     def count_in(self, low, high, depth=VOXELS):
         """How many blocks of this depth the blocks, which meet the box of these keys and of which
         none is deeper, have in it or at its border."""
-        firsts, lasts = (it >> VOXELS - depth for it in self.clipped(low, high))
-        return int((lasts - firsts + 1).prod(axis=1).sum())
+        return int(volumes(*(it >> VOXELS - depth for it in self.clipped(low, high))).sum())
 
-    def border_of(self, low, high, most):
-        """The box of these keys, or the least one around it of blocks of one depth along whose
-        border at most about so many parts are cut off the blocks, and that depth."""
-        for depth in range(VOXELS, 0, -1):
+    def border_of(self, low, high, most, depth=VOXELS):
+        """The least box around that of these keys of blocks of this depth, or, where more than
+        about so many parts are cut off along its border, of a lesser one, and that depth."""
+        for depth in range(depth, 0, -1):
             wide = (1 << VOXELS - depth) - 1
             first, last = np.asarray(low) & ~wide, np.asarray(high) | wide
             if self._parts_along(first, last) <= most:
@@ -146,16 +159,15 @@ class Leaves:
                 parts += int(faces[is_cut].sum()) // (int(cut) & -int(cut) or 1) ** 2
         return parts
 
-    def within(self, low, high, depth=VOXELS):
-        """The parts in the box of these keys, both corners included; at the depth a block counts
-        whole where it meets the box."""
+    def within(self, low, high):
+        """The parts in the box of these keys, both corners included."""
         low, high = np.asarray(low), np.asarray(high)
         kept, left = [], self
         while len(left):
             lows, edges = left.lows(), left.edges()[:, None]
             ends = lows + edges - 1
             meets = ((lows <= high) & (ends >= low)).all(axis=1)
-            is_inside = ((lows >= low) & (ends <= high)).all(axis=1) | (left.depths >= depth)
+            is_inside = ((lows >= low) & (ends <= high)).all(axis=1)
             kept.append(left.select(meets & is_inside))
             left = left.select(meets & ~is_inside).children()
         return _joined(kept, self.resolution)
@@ -167,21 +179,14 @@ class Leaves:
         depths, classes = np.repeat(self.depths + 1, 8), np.repeat(self.classes, 8)
         return Leaves(codes, depths, classes, self.resolution)
 
-    def count_blocks(self, depth=VOXELS):
-        """How many blocks of this depth there are. No block may be deeper."""
-        return int((self.volumes() >> 3 * (VOXELS - depth)).sum())
-
-    def blocks(self, depth=VOXELS, chunk=CHUNK):
-        """Arrays of codes and classes of all blocks of this depth, at most `chunk` at a time. No
-        block may be deeper."""
-        shift = 3 * (VOXELS - depth)
-        many = self.volumes() >> shift
-        ends = np.cumsum(many)
-        total = int(ends[-1]) if len(self) else 0
-        for low in range(0, total, chunk):
-            place = np.arange(low, min(low + chunk, total))
-            at = np.searchsorted(ends, place, "right")
-            yield self.codes[at] + (place - ends[at] + many[at] << shift), self.classes[at]
+    def blocks(self, low=0, high=HIGHEST, depth=VOXELS, chunk=CHUNK):
+        """Arrays of codes and classes of all blocks of this depth that the blocks, which meet the
+        box of these keys, have in it or at its border, at most `chunk` at a time. No block may be
+        deeper."""
+        shift = VOXELS - depth
+        firsts, lasts = (it >> shift for it in self.clipped(low, high))
+        for which, keys in in_boxes(firsts, lasts, chunk):
+            yield encode(keys << shift), self.classes[which]
 
     def centers(self, codes, depth=VOXELS):
         """The middles of blocks of one depth, in metres."""
@@ -189,21 +194,26 @@ class Leaves:
         middle = 2 * (decode(codes) - ORIGIN) + edge
         return middle * (self.resolution / 2 / NANO)
 
-    def frontier(self):
-        """The codes of the free voxels that have an unknown one beside them on an axis."""
+    def frontier(self, low=0, high=HIGHEST):
+        """The codes of the free voxels in the box of these keys that have an unknown one beside
+        them on an axis, in the box or not."""
         found = [
-            self._open_faces(axis, is_up) for axis in range(3) for is_up in (False, True)
+            self._open_faces(axis, is_up, low, high)
+            for axis in range(3)
+            for is_up in (False, True)
         ]
         return np.unique(np.concatenate(found))
 
-    def _open_faces(self, axis, is_up):
-        """The free voxels that have an unknown one behind this face. Of a block whose neighbour is
-        known throughout there are none; of others the four children at the face are looked at."""
-        free, pending = self.of_class(FREE), np.empty((0, 3), np.int64)
+    def _open_faces(self, axis, is_up, low, high):
+        """The free voxels in a box that have an unknown one behind this face. Of a block whose
+        neighbour is known throughout there are none; of others the four children at the face are
+        looked at."""
+        free, pending = self.of_class(FREE).meeting(low, high), np.empty((0, 3), np.int64)
         lows = free.lows()
         for depth in range(VOXELS + 1):
             edge = 1 << (VOXELS - depth)
             keys = np.concatenate([pending, lows[free.depths == depth]])
+            keys = keys[((keys <= high) & (keys + edge > low)).all(axis=1)]
             beside = keys.copy()
             beside[:, axis] += edge if is_up else -edge
             is_there = (beside[:, axis] >= 0) & (beside[:, axis] < 2 * ORIGIN)
@@ -228,13 +238,24 @@ def _joined(parts, resolution):
     return Leaves.sorted(*map(np.concatenate, arrays), resolution)
 
 
-def overlay(first, second):
-    """The pieces into which the blocks of two maps part the codes: how many voxels each has, and
-    its classes in the first and in the second."""
-    ends = [it.codes for it in (first, second)]
-    ends += [it.codes + it.volumes() for it in (first, second)]
-    cuts = np.unique(np.concatenate(ends))
-    return np.diff(cuts), first.class_at(cuts[:-1]), second.class_at(cuts[:-1])
+def table_of(first, second, low=0, high=HIGHEST):
+    """How many voxels in the box of these keys have which class in the first of two maps and which
+    in the second, (3, 3). What neither knows is left out."""
+    table = np.zeros((3, 3), np.int64)
+    _count(table, second.holders_of(first), first, second, low, high)
+    # (blocks of both are counted)
+    _count(table.T, first.holders_of(second, 1), second, first, low, high)
+    for one in (FREE, OCCUPIED):
+        table[one, UNKNOWN] = first.count(one, low, high) - table[one].sum()
+        table[UNKNOWN, one] = second.count(one, low, high) - table[:, one].sum()
+    return table
+
+
+def _count(table, holders, blocks, others, low, high):
+    """Counts the voxels of each block that lies whole in one of others."""
+    held = holders >= 0
+    classes = blocks.classes[held].astype(int), others.classes[holders[held]].astype(int)
+    np.add.at(table, classes, blocks.select(held).volumes_in(low, high))
 
 
 def values_of_parts(values, blocks, parts):

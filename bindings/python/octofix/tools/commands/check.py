@@ -20,7 +20,7 @@ from ..arguments import add_map, add_scans
 from ..errors import DONE, SKIPPED
 from ..gathering import gathered
 from ..interrupts import INTERRUPTS
-from ..leaves import OCCUPIED, UNKNOWN, Leaves, overlay
+from ..leaves import FREE, OCCUPIED, UNKNOWN, Leaves, table_of
 from ..lengths import NANO
 from ..mapping import refusal
 from ..maps import read_map
@@ -72,8 +72,7 @@ def run(options):
 
 def _add(tally, world, leaves, scan, reach):
     found = gathered(scan, world.resolution, world.limits, reach)
-    volumes, wanted, classes = overlay(found, leaves)
-    volumes, wanted, classes = (it[wanted != UNKNOWN] for it in (volumes, wanted, classes))
+    table = table_of(found, leaves)
     is_whole, ends = _cut(scan, reach)
     casts = world.cast(scan.origin / NANO, ends)
     is_at_end = (casts.keys == world.keys(ends)).all(axis=1)
@@ -82,9 +81,9 @@ def _add(tally, world, leaves, scan, reach):
     tally.ends += int(is_whole.sum())
     tally.ends_occupied += int((world.classes(ends[is_whole]) == OCCUPIED).sum())
     tally.ways_free += int(((casts.kinds == CastKind.CLEAR) | is_at_end).sum())
-    tally.voxels_correct += int(volumes[classes == wanted].sum())
-    tally.voxels_unknown += int(volumes[classes == UNKNOWN].sum())
-    tally.voxels_wrong += int(volumes[(classes != wanted) & (classes != UNKNOWN)].sum())
+    tally.voxels_correct += int(table[FREE, FREE] + table[OCCUPIED, OCCUPIED])
+    tally.voxels_unknown += int(table[FREE, UNKNOWN] + table[OCCUPIED, UNKNOWN])
+    tally.voxels_wrong += int(table[FREE, OCCUPIED] + table[OCCUPIED, FREE])
 
 
 def _cut(scan, reach):

@@ -15,7 +15,7 @@ import numpy as np
 from ..arguments import add_box, add_map
 from ..boxes import box_of
 from ..errors import DONE, Unusable
-from ..leaves import FREE, NAMES, OCCUPIED, overlay
+from ..leaves import FREE, HIGHEST, NAMES, OCCUPIED, table_of
 from ..lengths import NANO, metres
 from ..maps import read_leaves
 from ..morton import decode
@@ -34,7 +34,9 @@ def arguments(parser):
 
 
 def run(options):
-    found = facts(*_maps_of(options))
+    first, second = _maps_of(options)
+    box = box_of(options.box, first.resolution) if options.box else (0, HIGHEST)
+    found = facts(first, second, box)
     print(json.dumps(found, indent=2) if options.json else _text(found))
     return DONE
 
@@ -45,27 +47,22 @@ def _maps_of(options):
     if edges[0] != edges[1]:
         said = f"its resolution is {edges[1]} m, and that of {options.first} is {edges[0]} m"
         raise Unusable(said, options.second)
-    if options.box:
-        maps = [it.within(*box_of(options.box, it.resolution)) for it in maps]
     return maps
 
 
-def facts(first, second):
-    """The table, the overlaps and the distances of two maps."""
-    volumes, *classes = overlay(first, second)
-    table = np.zeros((3, 3), np.int64)
-    np.add.at(table, tuple(it.astype(int) for it in classes), volumes)
-    table[0, 0] = 0
+def facts(first, second, box):
+    """The table, the overlaps and the distances of two maps in a box of keys."""
+    table = table_of(first, second, *box)
     found = {"table": {name: dict(zip(NAMES, row)) for name, row in zip(NAMES, table.tolist())}}
     del found["table"]["unknown"]["unknown"]
     found["iou"] = {NAMES[it]: _overlap(table, it) for it in (OCCUPIED, FREE)}
-    if max(it.count(OCCUPIED) for it in (first, second)) > MOST_VOXELS:
+    if max(it.count(OCCUPIED, *box) for it in (first, second)) > MOST_VOXELS:
         found["distances"] = f"they are told of {MOST_VOXELS} occupied voxels or fewer (--box)"
     elif lack("scipy.spatial"):
         found["distances"] = f"they need {lack('scipy.spatial')}"
     else:
         pairs = {"first_to_second": (first, second), "second_to_first": (second, first)}
-        found["distances"] = {name: _distances(*pair) for name, pair in pairs.items()}
+        found["distances"] = {name: _distances(*pair, box) for name, pair in pairs.items()}
     return found
 
 
@@ -74,27 +71,24 @@ def _overlap(table, one):
     return round(int(table[one, one]) / union, 6) if union else None
 
 
-def _distances(first, second):
+def _distances(first, second, box):
     """How far the voxels that are occupied in the first alone lie from the second's, in metres."""
-    keys, others = _occupied(first), _occupied(second)
-    if not len(keys) or not len(others):
+    codes, others = (_occupied(it, box) for it in (first, second))
+    if not len(codes) or not len(others):
         return None
-    keys = keys[second.class_at(_codes(first)) != OCCUPIED]
-    if not len(keys):
+    codes = codes[second.class_at(codes) != OCCUPIED]
+    if not len(codes):
         return {"voxels": 0}
-    away, _ = wanted("scipy.spatial").cKDTree(others).query(keys)
+    away, _ = wanted("scipy.spatial").cKDTree(decode(others)).query(decode(codes))
     away = away * first.resolution / NANO
     found = {"mean": away.mean(), "median": np.median(away), "most": away.max()}
-    return {"voxels": len(keys), **{name: round(float(it), 6) for name, it in found.items()}}
+    return {"voxels": len(codes), **{name: round(float(it), 6) for name, it in found.items()}}
 
 
-def _codes(leaves):
-    pieces = [codes for codes, _ in leaves.of_class(OCCUPIED).blocks()]
+def _occupied(leaves, box):
+    """The codes of the occupied voxels in a box."""
+    pieces = [codes for codes, _ in leaves.of_class(OCCUPIED).meeting(*box).blocks(*box)]
     return np.concatenate(pieces) if pieces else np.empty(0, np.int64)
-
-
-def _occupied(leaves):
-    return decode(_codes(leaves))
 
 
 def _text(found):

@@ -8,13 +8,12 @@ than some 8 million parts of large blocks, it ends with whole blocks at its bord
 """
 
 from ..arguments import add_box, add_map, add_map_outputs
-from ..boxes import box_of
+from ..boxes import border_of, box_of
 from ..clashes import refuse_first
 from ..destinations import asked_of, places_of
 from ..errors import DONE, Unusable
-from ..leaves import VOXELS, values_of_parts
+from ..leaves import values_of_parts
 from ..maps import read_blocks
-from ..progress import say
 from ..rebuild import write_leaves
 
 HELP = "the part of a map in a box"
@@ -37,11 +36,9 @@ def run(options):
         raise Unusable("the box is to be given (--box)")
     read = read_blocks(options.map)
     box = box_of(options.box, read.leaves.resolution)
-    *box, depth = read.leaves.border_of(*box, MOST_PARTS)
+    box = border_of(read.leaves, box, MOST_PARTS)
     leaves, values = read.leaves.meeting(*box), read.values
     if values is not None:
         values = values_of_parts(values, read.leaves, leaves)
     write_leaves(options, read, leaves, values, box=box)
-    if depth < VOXELS:
-        say(f"the box ends with blocks of depth {depth}: it cuts off too many parts of large ones")
     return DONE

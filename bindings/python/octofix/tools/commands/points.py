@@ -14,18 +14,19 @@ occupied) behind x, y, z.
 import numpy as np
 
 from ..arguments import add_box, add_map, add_output, whole
-from ..boxes import box_of
+from ..boxes import border_of, box_of
 from ..errors import DONE, Unusable
-from ..leaves import FREE, OCCUPIED, VOXELS
+from ..leaves import FREE, HIGHEST, OCCUPIED, VOXELS
 from ..lengths import NANO
 from ..maps import read_leaves
-from ..morton import decode
 from ..pointfiles import FORMS, form_of, write_points
 from ..progress import say
 from ..standing import POINTS as KINDS
 
 HELP = "voxels as points: PLY, PCD, XYZ, CSV, .npy"
 CLASSES = {"occupied": OCCUPIED, "free": FREE}
+# Of large blocks along the border of a box.
+MOST_PARTS = 1 << 23
 
 
 def arguments(parser):
@@ -57,20 +58,17 @@ def pieces(options):
     # (A greater block is occupied where a voxel in it is, whatever else is known there.)
     kind = "occupied" if options.what == "occupied" else "known"
     leaves = read_leaves(options.map, kind).coarse(options.depth)
-    box = box_of(options.box, leaves.resolution) if options.box else None
+    box = box_of(options.box, leaves.resolution) if options.box else (0, HIGHEST)
     if options.what == "frontier":
-        codes = leaves.frontier()
-        if box:
-            keys = decode(codes)
-            codes = codes[((keys >= box[0]) & (keys <= box[1])).all(axis=1)]
+        codes = leaves.frontier(*box)
         return len(codes), [leaves.centers(codes)]
     if options.what == "leaves":
-        leaves = leaves.within(*box, options.depth) if box else leaves
+        if options.box:
+            leaves = leaves.within(*border_of(leaves, box, MOST_PARTS, options.depth))
         return len(leaves), [_leaf_rows(leaves)]
-    leaves = leaves.of_class(CLASSES[options.what])
-    leaves = leaves.within(*box, options.depth) if box else leaves
-    found = (leaves.centers(codes, options.depth) for codes, _ in leaves.blocks(options.depth))
-    return leaves.count_blocks(options.depth), found
+    leaves = leaves.of_class(CLASSES[options.what]).meeting(*box)
+    found = (leaves.centers(it, options.depth) for it, _ in leaves.blocks(*box, options.depth))
+    return leaves.count_in(*box, options.depth), found
 
 
 def _leaf_rows(leaves):

@@ -26,7 +26,7 @@ import numpy as np
 
 from .. import colours, oblique, planes
 from ..arguments import add_box, add_map, add_origin, add_output, finite, whole
-from ..boxes import box_of
+from ..boxes import border_of, box_of
 from ..errors import DONE, Unusable
 from ..files import write
 from ..leaves import HIGHEST, OCCUPIED, VOXELS, values_of_parts
@@ -147,10 +147,7 @@ def _page_of(options):
     leaves, values, said = read_placed(options.map)
     origin = the_one(said, options.origin, options.map)
     if options.box:
-        *box, deepest = leaves.border_of(*box_of(options.box, leaves.resolution), MOST_PARTS)
-        if deepest < VOXELS:
-            said = "it cuts off too many parts of large ones"
-            say(f"the box ends with blocks of depth {deepest}: {said}")
+        box = border_of(leaves, box_of(options.box, leaves.resolution), MOST_PARTS)
         part = leaves.within(*box)
         values = values if values is None else values_of_parts(values, leaves, part)
         leaves = part
@@ -219,7 +216,7 @@ def _voxels(leaves, box):
         occupied = occupied.coarse(depth)
     if depth < VOXELS:
         say(f"blocks of depth {depth} are shown: there are more than {MOST_VOXELS} voxels")
-    codes = [codes for codes, _ in occupied.within(*box, depth).blocks(depth)]
+    codes = [codes for codes, _ in occupied.blocks(*box, depth)]
     if not codes:
         raise Unusable("nothing is occupied there")
     return decode(np.concatenate(codes) >> 3 * (VOXELS - depth))

@@ -15,6 +15,7 @@ from ...arguments import add_box, add_output
 from ...errors import DONE
 from ...pointfiles import FORMS, form_of, write_points
 from ...progress import say
+from ...voxels import volumes
 from .. import points
 from .running import add_folder, corners_of, refuse_inside
 
@@ -50,8 +51,8 @@ def run(options):
 
 
 def _volume(tiles, leaves, box):
-    leaves = leaves.within(*tiles.voxels_of(box)) if box else leaves
-    return int((leaves.edges**3).sum())
+    ends = leaves.clipped(*tiles.voxels_of(box)) if box else (leaves.lows, leaves.ends())
+    return int(volumes(*ends).sum())
 
 
 def _rows(tiles, leaves):
