@@ -107,6 +107,78 @@ class Surveys(InFolder):
             found = json.loads(self.done("info", name, "--json").output)
             self.assertEqual(found["origin"], [500000, 4649776.5, 100])
 
+    def origin_of(self, name):
+        found = json.loads(self.done("info", name, "--json").output)
+        return found.get("origin")
+
+    def test_kept_by_what_is_made_of_a_map(self):
+        """That of a .bt file, and of a snapshot what is said; a snapshot that is written has none,
+        and that is told."""
+        self.map("a.npy", *UTM, "-o", "a.bt", "--snapshot", "a.snap")
+        commands = (
+            ["crop", "--box", 2, 2, 0, 3, 4, 1], ["shift", "--voxels", 1, 0, 0],
+            ["coarsen", "--depth", 15], ["merge"],
+        )  # fmt: skip
+        for command, *words in commands:
+            self.done(command, "a.bt", *words, "-o", "b.bt")
+            self.assertEqual(self.origin_of("b.bt"), [500000, 4649776.5, 100])
+            ran = self.done(command, "a.snap", *words, *UTM, "-o", "c.bt", "--snapshot", "c.snap")
+            self.assertEqual(self.origin_of("c.bt"), [500000, 4649776.5, 100])
+            said = "octofix: a snapshot doesn't keep the origin 500000 4649776.5 100: what reads it"
+            self.assertEqual(ran.said, f"{said} takes --origin\n")
+            said = "a.bt: its origin lies at 500000 4649776.5 100, and not at 1 2 3"
+            self.refused(said, command, "a.bt", *words, "--origin", 1, 2, 3, "-o", "d.bt")
+
+    def test_told_of_what_keeps_none(self):
+        said = self.map("a.npy", *UTM, "-o", "a.bt", "--snapshot", "a.snap")
+        self.assertIn("a snapshot doesn't keep the origin", said)
+        self.assertNotIn("origin", self.map("a.npy", *UTM, "--snapshot", "a.snap", "--quiet"))
+        said = self.done("points", "a.bt", "-o", "a.xyz").said
+        said_of = "1 points (occupied) written to a.xyz, from the origin 500000 4649776.5 100 on"
+        self.assertEqual(said, f"octofix: {said_of}\n")
+
+    def test_maps_of_two_places(self):
+        self.map("a.npy", *UTM, "-o", "a.bt")
+        self.map("a.npy", "--origin", 500000, 4649776, 100, "-o", "b.bt")
+        said = "a.bt: its origin lies at 500000 4649776.5 100, and not at 500000 4649776 100"
+        self.refused(said, "compare", "a.bt", "b.bt")
+        self.done("compare", "a.bt", "a.bt")
+
+    def test_tiles(self):
+        """They keep it, and all clouds are to have it subtracted."""
+        words = ["--poses", "poses.txt", "a.npy"]
+        self.done("tiles", "build", "town", "--res", 0.1, *words, *UTM)
+        found = json.loads(self.done("tiles", "info", "town", "--json").output)
+        self.assertEqual(found["origin"], [500000, 4649776.5, 100])
+        self.assertIn(b"origin       500000 4649776.5 100\n",
+                      self.done("tiles", "info", "town").output)  # fmt: skip
+        said = "town: its origin isn't subtracted (--origin 500000 4649776.5 100)"
+        for more in ([], ["--origin", 1, 2, 3]):
+            self.refused(said, "tiles", "add", "town", "--again", *words, *more)
+        self.done("tiles", "add", "town", "--again", *words, *UTM)
+        ran = self.done("tiles", "crop", "town", "-o", "a.bt", "--snapshot", "a.snap")
+        self.assertEqual(self.origin_of("a.bt"), [500000, 4649776.5, 100])
+        self.assertIn("a snapshot doesn't keep the origin", ran.said)
+        self.done("tiles", "grid", "town", "-o", "a.pgm")
+        with open("a.yaml") as file:
+            self.assertIn("map_origin: [500000, 4649776.5, 100]\n", file.read())
+        self.done("tiles", "view", "town", "-o", "a.html")
+        with open("a.html") as file:
+            self.assertIn("the origin lies at 500000 4649776.5 100", file.read())
+        said = self.done("tiles", "points", "town", "-o", "a.xyz").said
+        self.assertIn(", from the origin 500000 4649776.5 100 on\n", said)
+
+    def test_tiles_that_are_moved(self):
+        """What is cut out of them far from their origin has its own."""
+        for subtracted, wanted in (([], [5120, 0, 0]), (UTM, [505120, 4649776.5, 100])):
+            at = [5126.05 + 500000 * bool(subtracted), 4649776.55 * bool(subtracted), 0.05]
+            at[2] += 100 * bool(subtracted)
+            words = ["a.npy", "--pose", *at, 1, 0, 0, 0, *subtracted]
+            name = f"town{len(subtracted)}"
+            self.done("tiles", "build", name, "--res", 0.1, *words)
+            self.done("tiles", "crop", name, "-o", "a.bt", "--force")
+            self.assertEqual(self.origin_of("a.bt"), wanted)
+
     def test_in_parts_of_a_nanometre(self):
         """What is said is kept to the nanometre, below 0 too."""
         self.done("map", "--res", 1, "a.npy", "--pose", -7.25, 1e6, 0, 1, 0, 0, 0, "--origin",

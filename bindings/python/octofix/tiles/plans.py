@@ -12,9 +12,11 @@ import numpy as np
 
 from octofix import Odds
 from octofix.tools.arguments import Input, add_scans
+from octofix.tools.lengths import nanometres
 from octofix.tools.poses import Pose
 from octofix.tools.scans import Scans
 from octofix.tools.setup import scans_of
+from octofix.tools.surveys import expect_subtracted
 from octofix.tools.trajectory import InTurn
 
 from . import folder as files
@@ -27,20 +29,32 @@ CHUNKS, LEAST, MOST = 400, 4 << 20, 64 << 20
 
 class Settings(NamedTuple):
     """What all tiles of a folder have in common: nanometres of a voxel, 2^log2 voxels an edge of a
-    tile, the log-odds, and the most groups of a tile."""
+    tile, the log-odds, the most groups of a tile, and where the world's origin lies in the frame of
+    a survey, in nanometres, or None."""
 
     resolution: int
     log2: int
     odds: Odds
     max_groups: int
+    origin: tuple[int, int, int] | None = None
 
     @staticmethod
     def of(found: dict[str, Any]) -> Settings:
         """Those that `asdict` made."""
-        return Settings(**{**found, "odds": Odds(**found["odds"])})
+        x_y_z = found.get("origin")
+        origin = None if x_y_z is None else tuple(x_y_z)
+        return Settings(**{**found, "odds": Odds(**found["odds"]), "origin": origin})
 
     def asdict(self) -> dict[str, Any]:
-        return {**self._asdict(), "odds": self.odds._asdict()}
+        origin = None if self.origin is None else [*self.origin]
+        return {**self._asdict(), "odds": self.odds._asdict(), "origin": origin}
+
+    def placed(self, subtracted: Sequence[float] | None, name: str) -> Settings:
+        """The same with what is subtracted from clouds, in metres; Unusable where tiles of this
+        name have another origin."""
+        expect_subtracted(self.origin, subtracted, name)
+        asked = None if subtracted is None else tuple(nanometres(subtracted).tolist())
+        return self._replace(origin=self.origin or asked)
 
     def lattice(self) -> Lattice:
         return Lattice(self.resolution, self.log2)

@@ -55,7 +55,7 @@ def begin(
     the tiles have just these clouds already. `settings` are those of new tiles; None adds to tiles
     that are there."""
     index = _index_for(folder, settings)
-    found = settings or Settings.of(index["settings"])
+    found = (settings or Settings.of(index["settings"])).placed(options.origin, folder)
     plan = planned(options, found, new_run(index["run"] + 1), octofix.__version__)
     if _is_done(folder, index, plan, is_again):
         return None

@@ -95,6 +95,12 @@ class Tiles:
         return self._settings.odds
 
     @property
+    def origin_nm(self) -> tuple[int, int, int] | None:
+        """Where the origin lies in the frame of a survey, by --origin of the runs, in nanometres;
+        None where nobody says."""
+        return self._settings.origin
+
+    @property
     def side(self) -> int:
         """How many voxels a tile has along its edge."""
         return self._lattice.side
@@ -112,8 +118,8 @@ class Tiles:
 
     def info(self) -> dict[str, Any]:
         """What the tiles are, as JSON may have it: "resolution" (m), "side" (voxels), "edge" (m),
-        "odds", "max_groups", "tiles", "bytes" on the disk, "low" and "high" (m, the corners of the
-        box of all tiles, None without any), "runs" (each with "run", "clouds", "scans", "points",
+        "odds", "max_groups", "origin" (m, or None), "tiles", "bytes" on the disk, "low" and "high"
+        (m, the corners of the box of all tiles, None without any), "runs" (each with "run", "clouds", "scans", "points",
         "skipped" and "gaps"), and "begun", the run that isn't ended, or None."""
         entries = self._entries
         low = high = None
@@ -128,6 +134,7 @@ class Tiles:
             "edge": self.side * self._lattice.edge / NANO,
             "odds": self._settings.odds._asdict(),
             "max_groups": self._settings.max_groups,
+            "origin": self.origin_nm and [it / NANO for it in self.origin_nm],
             "tiles": len(entries),
             "bytes": sum(it["bytes"] for it in entries.values()),
             "low": low,

@@ -11,7 +11,8 @@ from octofix import Refused
 from .errors import Unusable
 from .files import MOST_BYTES, read_bytes
 from .leaves import Leaves
-from .surveys import PlacedMap, origin_in, with_origin
+from .progress import say
+from .surveys import PlacedMap, origin_in, text_of, with_origin
 
 SNAPSHOTS = (b"OCTSNAP1", b"OCTSNAP2")
 FLOAT_TREE = b"# Octomap OcTree file"
@@ -102,10 +103,18 @@ def read_blocks(name, kind="known"):
     return Blocks(leaves, *own, world.origin)
 
 
-def write_map(world, files):
+def tell_origin(asked, origin):
+    """Says so where a map's origin isn't in what was asked for."""
+    if origin and "snapshot" in asked:
+        said = f"a snapshot doesn't keep the origin {text_of(origin)}"
+        say(f"{said}: what reads it takes --origin")
+
+
+def write_map(world, files, origin=None):
     """Writes a map to the files, which are open, by what they are: an "output", which is a .bt
-    file and has the origin of a PlacedMap, or a "snapshot"."""
+    file and has the origin of a PlacedMap, or this one, or a "snapshot"."""
     if "output" in files:
-        files["output"].write(with_origin(world.to_bt(), getattr(world, "origin", None)))
+        origin = getattr(world, "origin", origin)
+        files["output"].write(with_origin(world.to_bt(), origin))
     if "snapshot" in files:
         files["snapshot"].write(world.to_snapshot())

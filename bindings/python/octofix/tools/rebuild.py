@@ -10,8 +10,8 @@ from .errors import Unusable
 from .files import written
 from .leaves import OCCUPIED
 from .lengths import NANO
-from .maps import MOST_GROUPS, write_map
-from .surveys import PlacedMap
+from .maps import MOST_GROUPS, tell_origin, write_map
+from .surveys import PlacedMap, the_one
 
 
 def write_leaves(options, read, leaves, values=None, *, steps=(0, 0, 0), box=ALL):
@@ -22,7 +22,7 @@ def write_leaves(options, read, leaves, values=None, *, steps=(0, 0, 0), box=ALL
     expect_something(options, len(leaves))
     odds = {} if values is None else read.odds
     with PlacedMap(leaves.resolution / NANO, **odds, max_groups=MOST_GROUPS) as world:
-        world.origin = read.origin
+        world.origin = the_one(read.origin, options.origin, options.map)
         if values is None:
             most = world.odds
             values = np.where(leaves.classes == OCCUPIED, most.max, most.min)
@@ -32,3 +32,4 @@ def write_leaves(options, read, leaves, values=None, *, steps=(0, 0, 0), box=ALL
             raise Unusable(f"the map can't be made: {refused}") from None
         with written(places_of(options), options.force) as files:
             write_map(world, dict(zip(asked, files)))
+    tell_origin(asked, world.origin)

@@ -41,6 +41,14 @@ def text_of(origin):
     return " ".join(map(metres, origin))
 
 
+def moved_origin(origin, moved):
+    """Where the origin of a map lies that was moved to there, in nanometres, from another one's, or
+    None; None for a map that wasn't moved and of which nobody says."""
+    if origin is None and not any(moved):
+        return None
+    return tuple(int(a) + int(b) for a, b in zip(origin or (0, 0, 0), moved))
+
+
 def expect_subtracted(said, lengths, name):
     """Unusable where the origin that a map has isn't what is subtracted from clouds, in metres."""
     if said and (lengths is None or said != tuple(nanometres(lengths).tolist())):

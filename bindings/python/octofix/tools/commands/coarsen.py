@@ -7,7 +7,7 @@ above free), and is filled with it. The resolution stays.
 A snapshot has the greatest value of each block where the map is a snapshot itself.
 """
 
-from ..arguments import add_map, add_map_outputs, whole
+from ..arguments import add_map, add_map_outputs, add_origin, whole
 from ..clashes import refuse_first
 from ..destinations import asked_of, places_of
 from ..errors import DONE
@@ -24,6 +24,7 @@ def arguments(parser):
         "--depth", type=whole(0, VOXELS), required=True, metavar="D", help="16 is a voxel"
     )
     add_map_outputs(parser)
+    add_origin(parser)
 
 
 outputs = places_of

@@ -17,9 +17,10 @@ from ..boxes import box_of
 from ..errors import DONE, Unusable
 from ..leaves import FREE, HIGHEST, NAMES, OCCUPIED, table_of
 from ..lengths import NANO, metres
-from ..maps import read_leaves
+from ..maps import read_placed
 from ..morton import decode
 from ..optional import lack, wanted
+from ..surveys import the_one
 
 HELP = "classes of two maps side by side"
 # Of which distances are looked for, which takes memory for each.
@@ -42,7 +43,9 @@ def run(options):
 
 
 def _maps_of(options):
-    maps = [read_leaves(it) for it in (options.first, options.second)]
+    read = [read_placed(it) for it in (options.first, options.second)]
+    the_one(*(it[-1] for it in read), options.first)
+    maps = [it[0] for it in read]
     edges = [metres(it.resolution) for it in maps]
     if edges[0] != edges[1]:
         said = f"its resolution is {edges[1]} m, and that of {options.first} is {edges[0]} m"

@@ -7,7 +7,7 @@ A snapshot has the values of the map where that is a snapshot itself. Where the 
 than some 8 million parts of large blocks, it ends with whole blocks at its border, which is said.
 """
 
-from ..arguments import add_box, add_map, add_map_outputs
+from ..arguments import add_box, add_map, add_map_outputs, add_origin
 from ..boxes import border_of, box_of
 from ..clashes import refuse_first
 from ..destinations import asked_of, places_of
@@ -24,6 +24,7 @@ def arguments(parser):
     add_map(parser)
     add_box(parser)
     add_map_outputs(parser)
+    add_origin(parser)
 
 
 outputs = places_of

@@ -30,7 +30,7 @@ from ..interrupts import INTERRUPTS, Abandoned
 from ..keeping import keep, told
 from ..lengths import metres, nanometres
 from ..mapping import Mapper
-from ..maps import read_map_with, write_map
+from ..maps import read_map_with, tell_origin, write_map
 from ..parallel import ParallelMapper, RegionMapper
 from ..progress import Progress, is_terminal, say
 from ..script import Script
@@ -123,6 +123,7 @@ def run(options):
     INTERRUPTS.take()
     if not options.quiet:
         say(_closing_line(mapper, scans))
+        tell_origin(asked, _origin_of(options))
     if is_stopped:
         say(f"stopped by {INTERRUPTS.name()}: the map has the scans until then")
         return INTERRUPTED
@@ -191,9 +192,13 @@ def _map_of(options):
         raise Unusable(REFUSED.get(field, str(refused))) from None
     if options.start is not None:
         _expect_same(world, options, asked)
-    origin = options.origin and tuple(nanometres(options.origin).tolist())
-    world.origin = the_one(world.origin, origin, options.start)
+    world.origin = the_one(world.origin, _origin_of(options), options.start)
     return world
+
+
+def _origin_of(options):
+    """What is subtracted from clouds, in nanometres, or None."""
+    return options.origin and tuple(nanometres(options.origin).tolist())
 
 
 def _expect_same(world, options, asked):

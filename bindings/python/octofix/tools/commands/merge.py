@@ -13,13 +13,13 @@ whole, or a region is missing.
 
 from octofix import Refused, Rule
 
-from ..arguments import Input, add_map_outputs
+from ..arguments import Input, add_map_outputs, add_origin
 from ..clashes import refuse_first
 from ..destinations import asked_of, expect_something, places_of
 from ..errors import DONE, Unusable
 from ..files import WRITING, written
 from ..interrupts import INTERRUPTS
-from ..maps import read_map, write_map
+from ..maps import read_map, tell_origin, write_map
 from ..regions import Parts, Region
 from ..surveys import the_one
 
@@ -36,6 +36,7 @@ def arguments(parser):
         "maps", nargs="+", type=Input, metavar="MAP", help="snapshots or .bt files; - is the input"
     )
     add_map_outputs(parser)
+    add_origin(parser)
     parser.add_argument(
         "--rule", choices=[*RULES],
         help="the value where several know a voxel: that of the first of the maps, the greatest or "
@@ -58,6 +59,7 @@ def run(options):
             world = _joined(options)
             expect_something(options, world.bounds() is not None)
         INTERRUPTS.finish(WRITING, write_map, world, dict(zip(asked, opened)))
+    tell_origin(asked, world.origin)
     return DONE
 
 
@@ -65,6 +67,7 @@ def _joined(options):
     """The map of all files, which are read in turn."""
     parts, first = Parts(), options.maps[0]
     world = read_map(first)
+    world.origin = the_one(world.origin, options.origin, first)
     _note(parts, world, first, options.rule)
     for name in options.maps[1:]:
         with read_map(name) as other:

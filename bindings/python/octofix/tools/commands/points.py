@@ -18,10 +18,11 @@ from ..boxes import border_of, box_of
 from ..errors import DONE, Unusable
 from ..leaves import FREE, HIGHEST, OCCUPIED, VOXELS
 from ..lengths import NANO
-from ..maps import read_leaves
+from ..maps import read_placed
 from ..pointfiles import FORMS, form_of, write_points
 from ..progress import say
 from ..standing import POINTS as KINDS
+from ..surveys import text_of
 
 HELP = "voxels as points: PLY, PCD, XYZ, CSV, .npy"
 CLASSES = {"occupied": OCCUPIED, "free": FREE}
@@ -47,17 +48,23 @@ def run(options):
     if options.what == "frontier" and options.depth != VOXELS:
         raise Unusable("a frontier is of voxels, and takes no --depth")
     columns = ["x", "y", "z"] + ["size", "class"] * (options.what == "leaves")
-    count, found = pieces(options)
+    # (A greater block is occupied where a voxel in it is, whatever else is known there.)
+    kind = "occupied" if options.what == "occupied" else "known"
+    leaves, _, origin = read_placed(options.map, kind)
+    count, found = pieces(leaves.coarse(options.depth), options)
     write_points(options.output, form, columns, count, found, options.force)
-    say(f"{count} points ({options.what}) written to {options.output}")
+    tell_written(count, options, origin)
     return DONE
 
 
-def pieces(options):
-    """How many points there are, and arrays of rows of them."""
-    # (A greater block is occupied where a voxel in it is, whatever else is known there.)
-    kind = "occupied" if options.what == "occupied" else "known"
-    leaves = read_leaves(options.map, kind).coarse(options.depth)
+def tell_written(count, options, origin):
+    """Says how many points were written, and where their origin lies, or None."""
+    frame = f", from the origin {text_of(origin)} on" if origin else ""
+    say(f"{count} points ({options.what}) written to {options.output}{frame}")
+
+
+def pieces(leaves, options):
+    """How many points there are of leaves, and arrays of rows of them."""
     box = box_of(options.box, leaves.resolution) if options.box else (0, HIGHEST)
     if options.what == "frontier":
         codes = leaves.frontier(*box)

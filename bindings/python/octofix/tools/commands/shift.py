@@ -4,12 +4,13 @@
     octofix shift map.bt --voxels 15 0 -2 -o moved.bt
     octofix shift map.snap --voxels 15 0 -2 --snapshot moved.snap
 
-A snapshot has the values of the map where that is a snapshot itself.
+A snapshot has the values of the map where that is a snapshot itself. The origin of a map of a
+survey stays where it lies, so that what the map shows moves there, too.
 """
 
 import numpy as np
 
-from ..arguments import add_map, add_map_outputs, finite, whole
+from ..arguments import add_map, add_map_outputs, add_origin, finite, whole
 from ..clashes import refuse_first
 from ..destinations import asked_of, places_of
 from ..errors import DONE, Unusable
@@ -28,6 +29,7 @@ def arguments(parser):
     steps = whole(-65535, 65535)
     how.add_argument("--voxels", nargs=3, type=steps, metavar=("X", "Y", "Z"), help="in voxels")
     add_map_outputs(parser)
+    add_origin(parser)
 
 
 outputs = places_of

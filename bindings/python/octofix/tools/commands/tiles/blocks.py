@@ -5,14 +5,13 @@ from typing import NamedTuple
 import numpy as np
 
 from ...leaves import FREE, OCCUPIED, ORIGIN, VOXELS, Leaves
-from ...lengths import NANO
 from ...morton import encode
 from ...page import MOST_LEAVES
 
 
 class Blocks(NamedTuple):
     """Leaves of a map of greater voxels, which have 2^depth voxels an edge; moved: where its origin
-    lies in the world, in metres."""
+    lies in the world, in nanometres."""
 
     leaves: Leaves
     depth: int
@@ -84,4 +83,4 @@ def _as_map(tiles, lows, edges, classes, depth):
     depths = VOXELS - (np.frexp(edges >> depth)[1].astype(np.int64) - 1)
     resolution = tiles.resolution_nm << depth
     leaves = Leaves.sorted(encode(keys), depths, classes, resolution)
-    return Blocks(leaves, depth, shift * resolution / NANO)
+    return Blocks(leaves, depth, shift * resolution)

@@ -3,8 +3,8 @@
     octofix tiles crop town --box -5 -5 0 5 5 2 -o room.bt
     octofix tiles crop town -o all.bt --snapshot all.snap
 
-A part that has no room in a map around the origin, as one 5 km away, is moved by whole voxels, and
-by how much is said.
+A part that has no room in a map around the origin, as one 5 km away, is moved by whole voxels; by
+how much is said, and its .bt file has it as its origin.
 """
 
 from octofix.tiles import Tiles
@@ -14,9 +14,9 @@ from ...destinations import asked_of, expect_something, places_of
 from ...errors import DONE
 from ...files import WRITING, written
 from ...interrupts import INTERRUPTS
-from ...lengths import NANO
-from ...maps import write_map
+from ...maps import tell_origin, write_map
 from ...progress import say
+from ...surveys import moved_origin, text_of
 from .running import add_folder, corners_of, refuse_inside
 
 HELP = "a part, or all, as one map"
@@ -38,9 +38,10 @@ def run(options):
         with INTERRUPTS.held(None):
             world, shift = tiles.to_map(*corners_of(options.box))
             expect_something(options, world.bounds() is not None)
-        edge = tiles.resolution_nm
-        INTERRUPTS.finish(WRITING, write_map, world, dict(zip(asked, opened)))
-    if shift.any():
-        moved = " ".join(f"{it:.10g}" for it in shift * edge / NANO)
-        say(f"the map is moved: its origin lies at {moved} m")
+        moved = shift * tiles.resolution_nm
+        origin = moved_origin(tiles.origin_nm, moved)
+        INTERRUPTS.finish(WRITING, write_map, world, dict(zip(asked, opened)), origin)
+    if moved.any():
+        say(f"the map is moved: its origin lies at {text_of(moved)} m")
+    tell_origin(asked, origin)
     return DONE

@@ -42,7 +42,7 @@ def run(options):
         except ValueError as why:
             raise Unusable(f"{why} (--area, --height)") from None
         key = tiles.voxels_of(low)[0] + ORIGIN
-        write_grid(places, plane, (key, tiles.resolution_nm, None), options.force)
+        write_grid(places, plane, (key, tiles.resolution_nm, tiles.origin_nm), options.force)
     return DONE
 
 

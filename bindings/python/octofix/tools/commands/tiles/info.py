@@ -9,6 +9,7 @@ import json
 from octofix.tiles import Tiles
 
 from ...errors import DONE
+from ...surveys import text_of
 from .running import add_folder
 
 HELP = "what the tiles are, and of which runs"
@@ -21,7 +22,7 @@ def arguments(parser):
 
 def run(options):
     with Tiles(options.folder) as tiles:
-        found = tiles.info()
+        found, origin = tiles.info(), tiles.origin_nm
     if options.json:
         print(json.dumps(found, indent=2))
         return DONE
@@ -32,6 +33,8 @@ def run(options):
     if found["low"]:
         low, high = (" ".join(f"{it:.10g}" for it in found[end]) for end in ("low", "high"))
         print(f"from         {low}\nto           {high}")
+    if origin:
+        print(f"origin       {text_of(origin)}")
     print("log-odds     " + ", ".join(f"{name} {it}" for name, it in found["odds"].items()))
     for it in found["runs"]:
         counts = f"{it['clouds']} clouds, {it['scans']} scans of {it['points']} points"

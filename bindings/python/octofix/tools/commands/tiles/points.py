@@ -14,7 +14,6 @@ from octofix.tiles import Tiles
 from ...arguments import add_box, add_output
 from ...errors import DONE
 from ...pointfiles import FORMS, form_of, write_points
-from ...progress import say
 from ...voxels import volumes
 from .. import points
 from .running import add_folder, corners_of, refuse_inside
@@ -46,7 +45,7 @@ def run(options):
             count = sum(_volume(tiles, it, box) for it in tiles.leaves(*box, kind=options.what))
             pieces = (tiles.centers(it) for it in tiles.voxels(*box, kind=options.what))
         write_points(options.output, form, columns, count, pieces, options.force)
-    say(f"{count} points ({options.what}) written to {options.output}")
+        points.tell_written(count, options, tiles.origin_nm)
     return DONE
 
 

@@ -17,6 +17,7 @@ from ...files import write
 from ...page import page
 from ...progress import say
 from ...standing import PAGE
+from ...surveys import moved_origin, text_of
 from ..view import PAGES
 from .blocks import blocks_of
 from .running import add_folder, corners_of, refuse_inside
@@ -44,13 +45,14 @@ def run(options):
         raise Unusable("a page's name ends in .html", options.output)
     with Tiles(options.folder) as tiles:
         found = blocks_of(tiles, corners_of(options.box), options.depth)
+        origin = moved_origin(tiles.origin_nm, found.moved)
     if not len(found.leaves):
         raise Unusable("nothing is known there")
     name = os.path.basename(os.path.abspath(options.folder))
-    write((options.output, PAGE), page(found.leaves, name), options.force)
+    content = page(found.leaves, name, None, origin)
+    write((options.output, PAGE), content, options.force)
     if found.depth:
         say(f"blocks of {1 << found.depth} voxels an edge are shown")
     if found.moved.any():
-        moved = " ".join(f"{it:.10g}" for it in found.moved)
-        say(f"the page is moved: its origin lies at {moved} m")
+        say(f"the page is moved: its origin lies at {text_of(found.moved)} m")
     return DONE
