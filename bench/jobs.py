@@ -34,7 +34,7 @@ def timed(work):
 def mapped(scans, region=None):
     """The map of scans, in a region or in all, and the seconds that it took."""
     from octofix import Map
-    from octofix.tools.mapping import Mapper
+    from octofix.mapping.mapper import Mapper
 
     world = Map(RESOLUTION)
     if region is not None:
@@ -46,8 +46,8 @@ def mapped(scans, region=None):
 
 def reckoned(given, scans, count, read, alone, wanted):
     """Prints what a number of regions costs; what is wrong with it."""
-    from octofix.tools.parallel import is_safe, regions_of
-    from octofix.tools.regions import parted, regions_in
+    from octofix.mapping.parallel import is_safe, regions_of
+    from octofix.mapping.regions import parted, regions_in
 
     edge = round(RESOLUTION * 1e9)
     tree, cutting = timed(lambda: regions_of(given, count, edge, REACH))
@@ -77,8 +77,8 @@ def reckoned(given, scans, count, read, alone, wanted):
 def main():
     given = options.parser(__doc__).parse_args()
     os.environ["OCTOFIX_LIBRARY"] = f"{options.library_of(given)}/liboctofix.so.1"
-    from octofix.tiles import plans
-    from octofix.tools.setup import scans_of
+    from octofix.mapping.tiles import plans
+    from octofix.io.asked import scans_of
 
     with tempfile.TemporaryDirectory() as folder:
         names = make_street.save(folder, SCANS, COLUMNS)

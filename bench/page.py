@@ -22,7 +22,7 @@ from PIL import Image  # noqa: E402
 
 octofix_compile.make_in_place()
 
-from octofix.tools.command import main as octofix  # noqa: E402
+from octofix._program import main as octofix  # noqa: E402
 
 SIZE, COLOURS = (860, 480), 128
 MANY = "viewer.painter.solid.all[0].runs.reduce((sum, it) => sum + it.many, 0)"

@@ -56,9 +56,9 @@ def apart(work):
 def one_process(words):
     """The seconds, and the sums of both files, of one map."""
     from octofix import Map
-    from octofix.tiles import plans
-    from octofix.tools.mapping import Mapper
-    from octofix.tools.setup import scans_of
+    from octofix.mapping.tiles import plans
+    from octofix.mapping.mapper import Mapper
+    from octofix.io.asked import scans_of
 
     given = plans.options_of([*words, "--quiet"])
     world, began = Map(RESOLUTION), time.process_time()
@@ -74,7 +74,7 @@ def sums(world):
 
 def made(folder, words):
     """Makes the tiles; of each step the seconds of its tasks, and what they read."""
-    from octofix.tiles import engines, folder as files, plans, runs, steps, store
+    from octofix.mapping.tiles import engines, folder as files, plans, runs, steps, store
 
     told = {"part": [], "build": []}
 

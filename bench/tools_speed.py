@@ -31,8 +31,8 @@ RATIO, SECONDS, MEGABYTES = 1.5, 2.0, 100
 PLACED = """
 import resource, sys, time
 began = time.process_time()
-from octofix.tools.command import parser
-from octofix.tools.setup import scans_of
+from octofix._program import parser
+from octofix.io.asked import scans_of
 words = ["map", "--res", "1", "--quiet", "--pose", *"1 2 3 0.5 0.1 0.2 0.3".split(), "-o", "-"]
 began = time.process_time()
 points = sum(len(it.points) for it in scans_of(parser().parse_args([*words, sys.argv[1]])))

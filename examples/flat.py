@@ -11,7 +11,7 @@ import signal
 import sys
 from pathlib import Path
 
-sys.path.append(str(Path(__file__).resolve().parents[1] / "bindings/python/octofix/tools"))
+sys.path.append(str(Path(__file__).resolve().parents[1] / "bindings/python/octofix/cli"))
 from flat_plan import LEGS, ON_FLOOR, PLACES, TABLES, WALLS  # noqa: E402
 
 LOW, HIGH = "0.225", "0.725"

@@ -25,7 +25,7 @@ PCL_FORMS = ("ascii", "binary", "compressed")
 
 def read_by_tools(name):
     """The points of a file, without those that aren't finite."""
-    from octofix.tools.clouds import Reading, clouds_in
+    from octofix.io.formats import Reading, clouds_in
 
     (cloud,) = clouds_in(name, Reading())
     return cloud.points[np.isfinite(cloud.points).all(axis=1)]
@@ -68,7 +68,7 @@ def pcl(*words):
 
 def read_by_others():
     """What others read of the points of a map, and what the tools wrote as an array."""
-    from octofix.tools.command import main
+    from octofix._program import main
 
     main(["map", "--res", "0.1", "all.xyz", "-o", "map.bt", "--quiet"])
     for ending in ("ply", "pcd", "npy", "xyz"):

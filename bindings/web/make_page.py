@@ -15,11 +15,11 @@ WEB = Path(__file__).resolve().parent
 sys.dont_write_bytecode = True
 sys.path.insert(0, str(WEB.parent / "python"))
 
-from octofix.tools import looks  # noqa: E402
-from octofix.tools.bundle import script_of  # noqa: E402
+from octofix.viewer import looks  # noqa: E402
+from octofix.viewer.bundle import script_of  # noqa: E402
 
 SOURCES = WEB / "viewer"
-SHARED = WEB.parent / "python/octofix/tools/viewer"
+SHARED = WEB.parent / "python/octofix/viewer/assets"
 LIBRARY = ("octofix-library.mjs", "octofix.mjs")
 # Each behind what it uses.
 WORKER = ("tree.js", "faces.js", "supply.js", "trees.js", "octofix-calls.mjs", "desk.js")

@@ -6,7 +6,7 @@ import numpy as np
 from genpy.dynamic import generate_dynamic
 from geometry_msgs.msg import Point
 from nav_msgs.msg import OccupancyGrid
-from octofix.tools import colours
+from octofix.viewer import colours
 from rospy.numpy_msg import numpy_msg
 from sensor_msgs.msg import PointCloud2, PointField
 from std_msgs.msg import ColorRGBA

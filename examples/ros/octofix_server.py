@@ -16,8 +16,8 @@ import octofix
 import rospy
 import tf2_ros
 from octofix import live
-from octofix.tools.clouds.bags import points_in
-from octofix.tools.errors import Unusable
+from octofix.io.errors import Unusable
+from octofix.io.formats.bags import points_in
 from sensor_msgs.msg import PointCloud2
 from std_msgs.msg import Header
 from std_srvs.srv import Empty, EmptyResponse, Trigger, TriggerResponse

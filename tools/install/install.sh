@@ -137,7 +137,7 @@ put_web() {
 put_page() {
     python=$(python_that_can 'import sys; sys.exit(sys.version_info < (3, 9))')
     "$python" "$root/bindings/web/make_page.py" "${archive%/*}/octofix.wasm" "$room/page" || exit 1
-    put 644 "$room/page" "$packages/octofix/tools/viewer/viewer$suffix.html"
+    put 644 "$room/page" "$packages/octofix/viewer/assets/viewer$suffix.html"
 }
 
 # The man page and the completions of the tools are made of what these say of their own words.

@@ -16,7 +16,8 @@ import tool_completions
 import tool_manual
 from tool_words import commands_of, statuses_of
 
-from octofix.tools import command
+from octofix._program import parser
+from octofix.cli.command import STATUSES
 
 ROOT = Path(__file__).resolve().parents[2]
 MONTHS = (
@@ -33,8 +34,8 @@ def date():
 
 
 def main(folder):
-    commands = commands_of(command.parser())
-    statuses = statuses_of(command.STATUSES)
+    commands = commands_of(parser())
+    statuses = statuses_of(STATUSES)
     folder = Path(folder)
     folder.mkdir(parents=True, exist_ok=True)
     (folder / "octofix.1").write_text(tool_manual.page(commands, statuses, date()))

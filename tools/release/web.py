@@ -19,7 +19,7 @@ on. [octofix.d.ts](octofix.d.ts) has all calls, and PROVENANCE.txt says what is 
 
 Node before 24 takes 64-bit memories with the flag --experimental-wasm-memory64.
 """
-PAGE = "lib/python3/octofix/tools/viewer/viewer.html"
+PAGE = "lib/python3/octofix/viewer/assets/viewer.html"
 
 
 def make(release, prefix, out):

@@ -11,7 +11,7 @@ from typing import TYPE_CHECKING, Any, NoReturn
 import numpy as np
 import numpy.typing as npt
 
-from . import _arrays, _errors, _loading
+from . import _arrays, _errors, _loading, _turns
 from ._arrays import changes, length, own_odds, quaternion, rows_of_three
 from ._blocks import DEPTH
 from ._results import Casts, CastKind, Counted, Stop, VoxelClass
@@ -47,10 +47,12 @@ def pose(given: Any) -> tuple[list[float], list[float]] | None:
     """The place and the quaternion of a 4 x 4 matrix; None where it is none."""
     if np.shape(given) != (4, 4):
         return None
-    from . import live  # (the package doesn't need it else)
-
-    found = live.pose(given)
-    return found.at.tolist(), found.turn.tolist()
+    try:
+        rows = _arrays.real(given, "a position").astype(float).ravel().tolist()
+    except TypeError as why:
+        raise ValueError(str(why)) from None
+    at, turn = _turns.of_rows(rows)
+    return at.tolist(), turn.tolist()
 
 
 def step() -> None:

@@ -14,7 +14,7 @@ import time
 from pathlib import Path
 
 import numpy as np
-from octofix.tools.optional import wanted
+from octofix.io.optional import wanted
 
 CHROMIUM = "/usr/bin/chromium"
 # (WebGL without a graphics processor)

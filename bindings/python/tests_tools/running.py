@@ -12,7 +12,7 @@ from pathlib import Path
 from unittest import mock
 
 from octofix import Map
-from octofix.tools.command import main
+from octofix._program import main
 
 DATA = Path(__file__).parent / "data"
 

@@ -11,8 +11,8 @@ import numpy as np
 from running import octofix
 
 from octofix import Event, Map
-from octofix.tools import page
-from octofix.tools.bundle import script_of
+from octofix.viewer import page
+from octofix.viewer.bundle import script_of
 
 VIOLET, YELLOW, WHITE = (68, 1, 84), (253, 231, 37), (255, 255, 255)
 MARKED = (255, 26, 77)

@@ -10,27 +10,16 @@ import numpy as np
 from running import DATA, InFolder, save_map
 
 from octofix import Limits, Map, ray
-from octofix.tools import crew, mapping
-from octofix.tools.command import parser
-from octofix.tools.interrupts import INTERRUPTS
-from octofix.tools.lengths import nanometres
-from octofix.tools.parallel import is_safe
-from octofix.tools.regions import (
-    HIGHEST,
-    LOWEST,
-    PLACES,
-    Cut,
-    Parts,
-    Region,
-    Samples,
-    cut,
-    cut_off,
-    parted,
-    regions_in,
-    sample,
-)
-from octofix.tools.scans import Scan
-from octofix.tools.setup import scans_of
+from octofix._program import parser
+from octofix.cli.interrupts import INTERRUPTS
+from octofix.io.asked import scans_of
+from octofix.io.lengths import nanometres
+from octofix.io.scans import Scan
+from octofix.mapping import crew, mapper
+from octofix.mapping.parallel import is_safe
+from octofix.mapping.regions import (
+    HIGHEST, LOWEST, PLACES, Cut, Parts, Region, Samples, cut, cut_off, parted, regions_in, sample,
+)  # fmt: skip
 
 CLOUDS = [f"{number:02}.npy" for number in range(9)]
 FULL = "(--max-groups allows more, a larger --res or a --range takes less)"
@@ -150,14 +139,14 @@ class Jobs(InFolder):
     def test_no_memory(self):
         """It runs out in one of the threads."""
         save_drive(np.random.default_rng(1))
-        do_scan = mapping.do_scan
+        do_scan = mapper.do_scan
 
         def fail(*words):
             if threading.current_thread().name.startswith("crew"):
                 raise MemoryError
             do_scan(*words)
 
-        with mock.patch.object(mapping, "do_scan", fail):
+        with mock.patch.object(mapper, "do_scan", fail):
             words = ["map", "--res", 0.2, "--jobs", 2, *CLOUDS[:3], "-o", "a.bt"]
             self.refused("memory ran out", *words)
         self.assertEqual([it for it in os.listdir() if it.startswith("a.bt")], [])
@@ -165,7 +154,7 @@ class Jobs(InFolder):
     def test_no_memory_late(self):
         """What all threads have done is kept: one scan at least."""
         save_drive(np.random.default_rng(1))
-        do_scan, done = mapping.do_scan, []
+        do_scan, done = mapper.do_scan, []
 
         def fail(*words):
             if threading.current_thread().name.startswith("crew"):
@@ -174,7 +163,7 @@ class Jobs(InFolder):
                     raise MemoryError
             do_scan(*words)
 
-        with mock.patch.object(mapping, "do_scan", fail):
+        with mock.patch.object(mapper, "do_scan", fail):
             words = ["map", "--res", 0.2, "--jobs", 2, *CLOUDS[:4], "-o", "a.bt"]
             ran = self.done(*words, status=1)
         said = "memory ran out; the map so far, of ([1-4]) scans and parts of later ones, is in "

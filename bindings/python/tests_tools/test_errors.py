@@ -12,7 +12,7 @@ import numpy as np
 from running import DATA, InFolder, save_map
 
 from octofix import clouds
-from octofix.tools.command import NO_THREAD
+from octofix.cli.command import NO_THREAD
 
 PCD = (DATA / "corner.pcd").read_text()
 BINARY_PCD = (DATA / "corner_binary.pcd").read_bytes()
@@ -422,9 +422,9 @@ class Words(InFolder):
         """Numpy's words of an array's type may be long."""
         said = "Unable to allocate 21.3 MiB"
         fault = MemoryError(f"{said} for an array with shape (698027,) and data type int64")
-        with mock.patch("octofix.tools.maps.PlacedMap.from_bt", side_effect=fault):
+        with mock.patch("octofix.mapping.maps.PlacedMap.from_bt", side_effect=fault):
             self.refused(f"memory ran out: {said}", "info", "a.bt")
-        with mock.patch("octofix.tools.files._content_of", side_effect=fault):
+        with mock.patch("octofix.io.files._content_of", side_effect=fault):
             self.refused("a.bt: memory ran out as it was read", "info", "a.bt")
 
     def test_missing_libraries(self):
@@ -473,7 +473,7 @@ class Endless(InFolder):
         with open("fitting.npy", "wb") as file:
             file.write(npy(np.ones((300_000, 3), np.float32)))
         words = ["map", "--res", 1, "-o", "a.bt"]
-        with mock.patch("octofix.tools.files.free_memory", lambda: 4_000_000):
+        with mock.patch("octofix.io.files.free_memory", lambda: 4_000_000):
             for name in ("/dev/zero", "packed.pcd"):
                 self.refused(f"{name}: {said} 2,000,000 bytes", *words, name)
             self.refused(f"large.ply: {said} 4,000,000 bytes", *words, "large.ply")
@@ -493,10 +493,10 @@ class Endless(InFolder):
         with open("a.pcd", "wb") as file:
             file.write(head + sizes + packed)
         words = "map", "--res", 1, "a.pcd", "-o", "a.bt"
-        with mock.patch("octofix.tools.clouds.pcd.free_memory", lambda: 4_000_000):
+        with mock.patch("octofix.io.formats.pcd.free_memory", lambda: 4_000_000):
             said = "a.pcd: it is too large, or has no end: memory has room for 2,000,000 bytes"
             self.refused(said, *words)
-        with mock.patch("octofix.tools.clouds.pcd.free_memory", lambda: 4_800_000):
+        with mock.patch("octofix.io.formats.pcd.free_memory", lambda: 4_800_000):
             self.assertIn(" 1 scans of 200000 points", self.done(*words).said)
 
     def test_maps(self):
@@ -507,7 +507,7 @@ class Endless(InFolder):
         said = said.replace("1,073,741,824", "3,000,000")
         with open("packed.bt", "wb") as file:
             file.write(gzip.compress(bytes(3_000_001)))
-        with mock.patch("octofix.tools.maps.MOST_BYTES", 3_000_000):
+        with mock.patch("octofix.mapping.maps.MOST_BYTES", 3_000_000):
             for name in ("/dev/zero", "packed.bt"):
                 self.refused(f"{name}: {said}", "view", name, "-o", "a.html")
 
@@ -516,7 +516,7 @@ class Endless(InFolder):
         rows = b"".join(b"%d 0 0\n" % it for it in range(400))
         save_map("wanted.bt", 1, {(it, 0, 0): 9 for it in range(400)})
         wanted = self.done("points", "wanted.bt", "--format", "xyz", "-o", "-").output
-        with mock.patch("octofix.tools.files.PIECE", 1000):
+        with mock.patch("octofix.io.files.PIECE", 1000):
             for given in (rows, gzip.compress(rows[:1500]) + gzip.compress(rows[1500:])):
                 self.done("map", "--res", 1, "--world", "--pose", 0, 0, 0, 1, 0, 0, 0, "-", "-o",
                           "a.bt", given=given)  # fmt: skip
@@ -529,6 +529,6 @@ class Endless(InFolder):
             def read(self, size=-1):
                 return super().read(size) or None
 
-        with mock.patch("octofix.tools.files._input", lambda _: Waiting(b"1 2 3\n")):
+        with mock.patch("octofix.io.files._input", lambda _: Waiting(b"1 2 3\n")):
             said = "-: Resource temporarily unavailable"
             self.refused(said, "map", "--res", 1, "-", "-o", "a.bt")

@@ -13,9 +13,9 @@ import numpy as np
 from running import FRONTS, OLD_MAP, InFolder, files_of_at_most, old, save_map
 
 from octofix import Map, _files
-from octofix.tools import mapping
-from octofix.tools.command import main
-from octofix.tools.yamltext import text_of
+from octofix._program import main
+from octofix.cli.yamltext import text_of
+from octofix.mapping import mapper
 
 try:
     import yaml
@@ -352,13 +352,13 @@ class Replaced(Maps):
     def test_what_came_meanwhile(self):
         """Somebody else writes another file to that place while the tool works."""
         put_file("wait.xyz", CLOUD)
-        begun = mapping.do_scan
+        begun = mapper.do_scan
 
         def scan(*words):
             put_file("a.bt", b"theirs")
             begun(*words)
 
-        with mock.patch("octofix.tools.mapping.do_scan", scan):
+        with mock.patch("octofix.mapping.mapper.do_scan", scan):
             ran = self.done("map", "--res", 0.1, "wait.xyz", "-o", "a.bt", status=2)
         said = "--force replaces it); the map so far, of 1 scans, is in a.bt.partial"
         self.assertIn(said, ran.said)

@@ -17,7 +17,7 @@ import numpy as np
 from running import DATA, OLD_MAP, InFolder
 
 from octofix import clouds
-from octofix.tools.kinds import UTF_16
+from octofix.io.kinds import UTF_16
 
 PCD = "VERSION 0.7\nFIELDS a x y z\nSIZE 4 4 4 4\nTYPE F F F F\nCOUNT 1 1 1 1\n"
 PLY = "ply\nformat {}\nelement vertex 2\nproperty double x\nproperty float y\nproperty int z\n"
@@ -372,7 +372,7 @@ class Kinds(Inputs):
         header = types.SimpleNamespace(point_count=2, point_format=types.SimpleNamespace(size=20))
         file = types.SimpleNamespace(header=header, read=mock.Mock(return_value=cloud))
         laspy = types.SimpleNamespace(open=mock.Mock(return_value=contextlib.nullcontext(file)))
-        free = mock.patch("octofix.tools.clouds.las.free_memory", lambda: 4_000_000)
+        free = mock.patch("octofix.io.formats.las.free_memory", lambda: 4_000_000)
         with mock.patch.dict(sys.modules, laspy=laspy), free:
             self.assertEqual(self.points(b"LASF.."), ["1.5 2 3", "4 5 6"])
             self.assertEqual(laspy.open.call_args[0][0].getvalue(), b"LASF..")
@@ -388,7 +388,7 @@ class Kinds(Inputs):
         header = types.SimpleNamespace(point_count=100_001)
         header.point_format = types.SimpleNamespace(size=20)
         file = contextlib.nullcontext(types.SimpleNamespace(header=header))
-        free = mock.patch("octofix.tools.clouds.las.free_memory", lambda: 4_000_000)
+        free = mock.patch("octofix.io.formats.las.free_memory", lambda: 4_000_000)
         laspy = types.SimpleNamespace(open=lambda _: file)
         with mock.patch.dict(sys.modules, laspy=laspy), free:
             said = ": it is too large, or has no end: memory has room for 2,000,000 bytes"

@@ -18,24 +18,25 @@ BY_CTRL_C = -signal.SIGINT
 # Scans that last, as a scan of very many beams does: the library is at work, and Python waits.
 SLOW = """
 import time
-from octofix.tools import mapping
-from octofix.tools.command import run
-scan = mapping.do_scan
+from octofix.mapping import mapper
+from octofix._program import run
+scan = mapper.do_scan
 def slow(*words):
     print("begun", flush=True)
     time.sleep(%s)
     scan(*words)
-mapping.do_scan = slow
+mapper.do_scan = slow
 run()
 """
 # A second signal, which comes while it is told that the first one came.
 TWICE = """
 import os, signal
-from octofix.tools import command
+from octofix import _program
+from octofix.cli import command
 def say(text):
     os.kill(os.getpid(), signal.%s)
 command.say = say
-command.run()
+_program.run()
 """
 # A numpy during whose import signals come, and what they raise is lost.
 INTERRUPTING = """

@@ -10,7 +10,7 @@ from unittest import mock
 from running import OLD_MAP, InFolder
 
 from octofix import Map
-from octofix.tools import mapping
+from octofix.mapping import mapper
 
 
 def content_of(name):
@@ -81,14 +81,14 @@ class Kept(InFolder):
 
     def map_meanwhile(self, act, *words):
         """Makes a map; the act is done during the first scan."""
-        scan, acts = mapping.do_scan, [act]
+        scan, acts = mapper.do_scan, [act]
 
         def do_scan(*words):
             if acts:
                 acts.pop()()
             scan(*words)
 
-        with mock.patch.object(mapping, "do_scan", do_scan):
+        with mock.patch.object(mapper, "do_scan", do_scan):
             return self.map("a.xyz", "b.xyz", *words)
 
     def test_a_folder_that_goes(self):
@@ -126,16 +126,16 @@ class Kept(InFolder):
         with open("many.xyz", "w") as file:
             file.write("2 0 0\n" * 9)
         scans, limit = [], 3
-        write = mapping.Mapper._add_at_once
+        write = mapper.Mapper._add_at_once
 
-        def add(mapper, scan):
+        def add(own, scan):
             scans.append(scan)
             if len(scans) == limit:
-                mapper.script.file.write(b"scan 0 0 0 1 0 0 0 all\np 2")
+                own.script.file.write(b"scan 0 0 0 1 0 0 0 all\np 2")
                 raise OSError(28, "No space left on device", "out/m.txt")
-            return write(mapper, scan)
+            return write(own, scan)
 
-        with mock.patch.object(mapping.Mapper, "_add_at_once", add):
+        with mock.patch.object(mapper.Mapper, "_add_at_once", add):
             files = "-o", "out/m.bt", "--script", "out/m.txt"
             said = self.map("a.xyz", "b.xyz", "many.xyz", *files)
         self.assertIn("out/m.txt: No space left on device; the map so far, of 2 scans, is in", said)
@@ -150,7 +150,7 @@ class Kept(InFolder):
             edit(world, points[:1], words[0], words[1][:1])
             raise MemoryError
 
-        with mock.patch.object(mapping, "MOST_POINTS", 1), mock.patch.object(Map, "edit", fail):
+        with mock.patch.object(mapper, "MOST_POINTS", 1), mock.patch.object(Map, "edit", fail):
             with open("c.xyz", "w") as file:
                 file.write("5 0 0\n0 5 0\n")
             said = self.map("a.xyz", "c.xyz", "-o", "m.bt")

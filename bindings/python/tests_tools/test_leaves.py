@@ -5,9 +5,9 @@ import unittest
 import numpy as np
 
 import octofix
-from octofix.tools import planes
-from octofix.tools.leaves import FREE, OCCUPIED, ORIGIN, UNKNOWN, Leaves, table_of
-from octofix.tools.morton import decode, encode
+from octofix.mapping import planes
+from octofix.mapping.leaves import FREE, OCCUPIED, ORIGIN, UNKNOWN, Leaves, table_of
+from octofix.mapping.morton import decode, encode
 
 EDGE = 12
 LOW = ORIGIN - EDGE // 2

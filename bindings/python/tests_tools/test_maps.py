@@ -7,8 +7,8 @@ import numpy as np
 from running import DATA, OLD_MAP, InFolder, save_map
 
 from octofix import Map
-from octofix.tools.leaves import Leaves
-from octofix.tools.morton import encode
+from octofix.mapping.leaves import Leaves
+from octofix.mapping.morton import encode
 
 
 class LargeBlocks(InFolder):
@@ -37,7 +37,7 @@ class LargeBlocks(InFolder):
 
     def test_crop_of_too_many_parts(self):
         """The box is the least one of blocks that are large enough around what was asked."""
-        with mock.patch("octofix.tools.commands.crop.MOST_PARTS", 400):
+        with mock.patch("octofix.cli.commands.crop.MOST_PARTS", 400):
             ran = self.done("crop", "free.bt", *self.box(1.01), "-o", "a.bt")
         said = "the box ends with blocks of depth 14: it cuts off too many parts of large ones"
         self.assertEqual(ran.said, f"octofix: {said}\n")
@@ -53,9 +53,9 @@ class LargeBlocks(InFolder):
             return children(leaves)
 
         with mock.patch.object(Leaves, "children", counted), \
-             mock.patch("octofix.tools.commands.view.MOST_PARTS", 1 << 12), \
-             mock.patch("octofix.tools.commands.view.MOST_VOXELS", 1 << 12), \
-             mock.patch("octofix.tools.planes.MOST_COLUMNS", 1 << 40):  # fmt: skip
+             mock.patch("octofix.viewer.commands.view.MOST_PARTS", 1 << 12), \
+             mock.patch("octofix.viewer.commands.view.MOST_VOXELS", 1 << 12), \
+             mock.patch("octofix.mapping.planes.MOST_COLUMNS", 1 << 40):  # fmt: skip
             for half in (20, 50, 200, 1000):
                 for words in (["-o", "a.html"], ["--oblique", "-o", "a.png"]):
                     self.done("view", "free.bt", *words, *self.box(half + 0.01), "--force")
@@ -69,7 +69,7 @@ class LargeBlocks(InFolder):
             world.save("part.bt")
         box = ["--box", 0.06, 0.06, 0.06, 900, 900, 900]
         with mock.patch.object(Leaves, "children", side_effect=AssertionError), \
-             mock.patch("octofix.tools.commands.compare.MOST_VOXELS", 0):  # fmt: skip
+             mock.patch("octofix.cli.commands.compare.MOST_VOXELS", 0):  # fmt: skip
             found = json.loads(self.done("compare", "free.bt", "part.bt", *box, "--json").output)
         occupied, known, whole = 1023**3, 16383**3, 18000**3
         wanted = {
@@ -102,14 +102,14 @@ class LargeBlocks(InFolder):
             looked.append(len(keys))
             return encode(keys)
 
-        with mock.patch("octofix.tools.leaves.encode", counted):
+        with mock.patch("octofix.mapping.leaves.encode", counted):
             self.done("points", "half.bt", *words, "-o", "a.npy")
         points = np.load("a.npy")
         self.assertEqual((len(points), {*points[:, 0]}), (361**2, {-0.025}))
         self.assertLess(max(looked), 1 << 18)
 
     def test_points_of_too_many_parts(self):
-        with mock.patch("octofix.tools.commands.points.MOST_PARTS", 400):
+        with mock.patch("octofix.cli.commands.points.MOST_PARTS", 400):
             words = ["--what", "leaves", *self.box(1.01)]
             ran = self.done("points", "free.bt", *words, "-o", "a.npy")
         said = "the box ends with blocks of depth 14: it cuts off too many parts of large ones"

@@ -6,7 +6,7 @@ from unittest import mock
 
 from running import InFolder
 
-from octofix.tools import memory
+from octofix.io import memory
 
 
 class Free(InFolder):

@@ -8,7 +8,7 @@ import numpy as np
 from running import InFolder, save_map
 
 from octofix import Map
-from octofix.tools.pointfiles import points_file
+from octofix.cli.pointfiles import points_file
 
 # Keys from the origin at 0.5 m: a step, with a free voxel beside it and one above that.
 THREE = {(2, -1, 0): 3500, (4, -1, 0): -2000, (2, 1, 1): -2000}
@@ -218,7 +218,7 @@ class View(InFolder):
         with Map(1) as world:
             world.edit_box((0, 0, 0), (0, 99, 0), 1, 9)
             world.save("a.bt")
-        tools = "octofix.tools"
+        tools = "octofix.viewer"
         with mock.patch(f"{tools}.commands.view.MOST_PIXELS", 1 << 14):
             self.done("view", "a.bt", "-o", "a.png")
         self.assertEqual(picture("a.png").shape, (1200, 12, 3))
@@ -236,7 +236,7 @@ class View(InFolder):
             with Map(edge) as world:
                 world.edit_box((0, 0, 0), (1.9, 1.9, 1.9), 1, 9)
                 world.save(name)
-        with mock.patch("octofix.tools.commands.view.MOST_VOXELS", 8):
+        with mock.patch("octofix.viewer.commands.view.MOST_VOXELS", 8):
             for name in ("a", "b"):
                 ran = self.done("view", f"{name}.bt", "--oblique", "-o", f"{name}.png")
                 self.assertEqual("blocks of depth 15 are shown" in ran.said, name == "a")

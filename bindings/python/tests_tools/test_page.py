@@ -13,12 +13,12 @@ import numpy as np
 from running import InFolder, save_map
 
 from octofix import Event, Map
-from octofix.tools import page
-from octofix.tools.leaves import Leaves
-from octofix.tools.maps import read_leaves
-from octofix.tools.morton import encode
+from octofix.mapping.leaves import Leaves
+from octofix.mapping.maps import read_leaves
+from octofix.mapping.morton import encode
+from octofix.viewer import page
 
-VIEW = "octofix.tools.commands.view"
+VIEW = "octofix.viewer.commands.view"
 
 
 def read_page(name):
@@ -111,7 +111,7 @@ class Words(InFolder):
         with Map(1) as world:
             world.set([[0.5, 0.5, 0.5], [1.5, 0.5, 0.5], [8.5, 0.5, 0.5]], [-9, 40, -8])
             world.snapshot("a.snap")
-        with mock.patch("octofix.tools.page.MOST_LEAVES", 2):
+        with mock.patch("octofix.viewer.page.MOST_LEAVES", 2):
             ran = self.done("view", "a.snap", "-o", "a.html")
         self.assertIn("blocks of depth 15 are shown: there are more than", ran.said)
         _, _, words, values = read_page("a.html")

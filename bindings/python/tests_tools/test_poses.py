@@ -7,11 +7,12 @@ import numpy as np
 from running import DATA, InFolder, octofix
 
 from octofix import Map
-from octofix.tools import poses
-from octofix.tools.ordering import in_order
-from octofix.tools.errors import Unusable
-from octofix.tools.stamps import times_of
-from octofix.tools.trajectory import Nearness, Track, between
+from octofix import _turns
+from octofix.io import poses
+from octofix.io.errors import Unusable
+from octofix.io.ordering import in_order
+from octofix.io.stamps import times_of
+from octofix.io.trajectory import Nearness, Track, between
 
 
 HALF = 0.5**0.5
@@ -555,7 +556,7 @@ class Turns(InFolder):
         for number in range(200):
             turn = np.random.default_rng(number).normal(size=4)
             pose = poses.Pose.of((0, 0, 0), turn)
-            back = poses.Pose.of((0, 0, 0), poses.of_matrix(pose.matrix()))
+            back = poses.Pose.of((0, 0, 0), _turns.of_matrix(pose.matrix()))
             np.testing.assert_allclose(back.matrix(), pose.matrix(), atol=1e-12)
 
     def test_inverse(self):

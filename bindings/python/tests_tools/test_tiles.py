@@ -11,11 +11,11 @@ from driving import content_of, save_drive
 from running import DATA, InFolder, octofix
 
 from octofix import UNKNOWN, BadPoints, CastKind, Map, Rule, VoxelClass, ray, tiles
-from octofix.tiles import parts, plans
-from octofix.tiles.beams import met, packed, unpacked
-from octofix.tiles.lattice import Lattice
-from octofix.tiles.trees import Leaves, header, joined, node_of
-from octofix.tools import gathering, mapping
+from octofix.mapping import gathering, mapper
+from octofix.mapping.tiles import parts, plans
+from octofix.mapping.tiles.beams import met, packed, unpacked
+from octofix.mapping.tiles.lattice import Lattice
+from octofix.mapping.tiles.trees import Leaves, header, joined, node_of
 
 ONE = ["--snapshot", "one.snap", "-o", "one.bt"]
 WORDS = ["--res", "0.1", "--edge", "6.4"]
@@ -235,7 +235,7 @@ class Made(InFolder):
         """A scan that has more points than one call does, in each tile that it meets."""
         words = save_drive(3)
         with mock.patch.object(gathering, "MOST_POINTS", 40):
-            with mock.patch.object(mapping, "MOST_POINTS", 40):
+            with mock.patch.object(mapper, "MOST_POINTS", 40):
                 self.same(tiles.build("town", words, 0.1, edge=12.8), words)
 
     def test_many_scans_of_one_file(self):

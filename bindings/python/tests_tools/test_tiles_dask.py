@@ -31,7 +31,7 @@ if __name__ == "__main__":
 SITE = """
 import os, time
 if os.path.exists("hold"):
-    from octofix.tiles import steps
+    from octofix.mapping.tiles import steps
     real = steps.build
     def build(folder, run, name):
         open(f"held-{os.getpid()}", "w").close()
@@ -42,8 +42,8 @@ if os.path.exists("hold"):
     steps.build = build
 """
 COMMAND = """
-from octofix.tiles import engines
-from octofix.tools.command import run
+from octofix.mapping.tiles import engines
+from octofix._program import run
 engines.PATIENCE, engines.TIMES, engines.COME, engines.RETURN = 1.0, 0, 5.0, 60.0
 run()
 """

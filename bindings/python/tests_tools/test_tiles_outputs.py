@@ -11,9 +11,9 @@ from driving import content_of, save_drive
 from running import InFolder, octofix
 
 from octofix import Box, Map, VoxelClass, tiles
-from octofix.tiles import trees
-from octofix.tools import maps, morton, page
-from octofix.tools.commands.tiles import blocks
+from octofix.mapping import maps, morton
+from octofix.mapping.tiles import trees
+from octofix.viewer import blocks, page
 
 BOX = ["--box", "-3", "-2", "-2", "4.5", "3", "1.2"]
 

@@ -15,16 +15,15 @@ from driving import content_of, save_drive
 from running import InFolder, files_of_at_most
 
 from octofix import tiles
-from octofix.tiles import engines, steps
-from octofix.tiles import folder as files
+from octofix.mapping.tiles import engines, folder as files, plans, steps, store
 
 NEW = ["--res", "0.1", "--edge", "12.8"]
 KEPT = "what is done is kept, and the same command goes on with it"
 # A command whose second tile waits for a file to be taken away.
 WAITING = """
 import os, time
-from octofix.tiles import steps
-from octofix.tools.command import run
+from octofix.mapping.tiles import steps
+from octofix._program import run
 real, count = steps.build, []
 def build(folder, run, name):
     count.append(name)
@@ -95,9 +94,9 @@ class Again(Runs):
 
     def test_steps_twice(self):
         """Each step once more does nothing, whoever does it."""
-        options = tiles.plans.options_of(self.words)
+        options = plans.options_of(self.words)
         os.mkdir("town")
-        settings = tiles.settings_of(0.1, 12.8)
+        settings = store.settings_of(0.1, 12.8)
         run = steps.begin("town", options, settings)
         self.assertEqual(steps.begin("town", options, settings), run)
         found = [[steps.part("town", run, it) for it in steps.chunks("town", run)]
@@ -191,7 +190,7 @@ class Again(Runs):
         self.refused(said, "tiles", "build", "town", "--build", "1/2")
 
     def test_parts_of_several_pieces(self):
-        with mock.patch.object(tiles.plans, "LEAST", 1):
+        with mock.patch.object(plans, "LEAST", 1):
             self.build()
         with open("town/" + json.loads(content_of("town/index.json")[0])["runs"][0]["file"]) as file:
             self.assertEqual(len(json.load(file)["plan"]["chunks"]), 4)
@@ -298,7 +297,7 @@ class Faults(Runs):
     def test_a_tile_that_is_full(self):
         self.build()
         before = self.state()
-        settings = tiles.plans.Settings
+        settings = plans.Settings
         with mock.patch.object(settings, "of", lambda it: _tight(settings, it)):
             ran = self.done("tiles", "add", "town", *self.more, status=1)
         self.assertRegex(ran.said, r"^octofix: the tile \S+ is full: it needs more than 100 groups "
@@ -370,7 +369,7 @@ class Faults(Runs):
 
 
 def _tight(settings, found):
-    made = settings(**{**found, "odds": tiles.store.Odds(**found["odds"])})
+    made = settings(**{**found, "odds": store.Odds(**found["odds"])})
     return made._replace(max_groups=100)
 
 

@@ -14,7 +14,7 @@ import numpy as np
 import engines
 from engines import browser
 from octofix import Event, Map
-from octofix.tools.optional import wanted
+from octofix.io.optional import wanted
 
 COMMAND = [sys.executable, "-m", "octofix"]
 LIMIT = 1 << 30  # bytes of a file that the library takes

@@ -1,0 +1,1 @@
+"""Maps made of clouds: `live` while they come, `tiles` of any extent."""

@@ -1,0 +1,1 @@
+"""Maps as pictures and as pages of a browser."""

@@ -1,0 +1,1 @@
+"""The subcommands that show maps, as those of octofix.cli.commands."""
