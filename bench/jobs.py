@@ -34,12 +34,12 @@ def timed(work):
 def mapped(scans, region=None):
     """The map of scans, in a region or in all, and the seconds that it took."""
     from octofix import Map
-    from octofix.mapping.mapper import Mapper
+    from octofix.mapping.mapper import ScanMapper
 
     world = Map(RESOLUTION)
     if region is not None:
         world.limit(*region.corners(world.resolution_nm))
-    mapper = Mapper(world, REACH)
+    mapper = ScanMapper(world, REACH)
     _, seconds = timed(lambda: [mapper.add(it) for it in scans])
     return world, seconds
 

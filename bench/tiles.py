@@ -57,12 +57,12 @@ def one_process(words):
     """The seconds, and the sums of both files, of one map."""
     from octofix import Map
     from octofix.mapping.tiles import plans
-    from octofix.mapping.mapper import Mapper
+    from octofix.mapping.mapper import ScanMapper
     from octofix.io.asked import scans_of
 
     given = plans.options_of([*words, "--quiet"])
     world, began = Map(RESOLUTION), time.process_time()
-    mapper = Mapper(world, given.range)
+    mapper = ScanMapper(world, given.range)
     for scan in scans_of(given):
         mapper.add(scan)
     return time.process_time() - began, sums(world)

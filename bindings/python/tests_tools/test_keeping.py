@@ -126,7 +126,7 @@ class Kept(InFolder):
         with open("many.xyz", "w") as file:
             file.write("2 0 0\n" * 9)
         scans, limit = [], 3
-        write = mapper.Mapper._add_at_once
+        write = mapper.ScanMapper._add_at_once
 
         def add(own, scan):
             scans.append(scan)
@@ -135,7 +135,7 @@ class Kept(InFolder):
                 raise OSError(28, "No space left on device", "out/m.txt")
             return write(own, scan)
 
-        with mock.patch.object(mapper.Mapper, "_add_at_once", add):
+        with mock.patch.object(mapper.ScanMapper, "_add_at_once", add):
             files = "-o", "out/m.bt", "--script", "out/m.txt"
             said = self.map("a.xyz", "b.xyz", "many.xyz", *files)
         self.assertIn("out/m.txt: No space left on device; the map so far, of 2 scans, is in", said)

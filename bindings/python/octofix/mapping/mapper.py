@@ -28,7 +28,7 @@ def refusal(refused, name, kind=Unusable):
     return kind(text, name)
 
 
-class Mapper:
+class ScanMapper:
     """Does scans in a map, within its box of `limit`, and writes them to a script where there is
     one."""
 

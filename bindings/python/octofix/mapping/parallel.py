@@ -15,7 +15,7 @@ from octofix.io.readers import Readers
 
 from .crew import Crew
 from .gathering import MOST_POINTS, gathered
-from .mapper import FULL, Mapper
+from .mapper import FULL, ScanMapper
 from .maps import MOST_GROUPS
 from .regions import HIGHEST, LOWEST, Region, Samples, cut, parted, regions_in, sample
 
@@ -52,7 +52,7 @@ def is_safe(scan, edge, reach, limits):
     return bool((low >= LOWEST).all() and (high <= HIGHEST).all()) and most <= limits.max_cells
 
 
-class RegionMapper(Mapper):
+class RegionMapper(ScanMapper):
     """Does scans in one region of several, which are the same ones for the same clouds."""
 
     def __init__(self, world, number, count, reach=None, script=None):
@@ -78,7 +78,7 @@ class RegionMapper(Mapper):
         return super()._add_at_once(scan)
 
 
-class Judge(Mapper):
+class Judge(ScanMapper):
     """Refuses the scans that each region would refuse, and says of the others whether they are done
     in parts."""
 
@@ -103,7 +103,7 @@ class Judge(Mapper):
 
 
 class ParallelMapper:
-    """Does scans as a Mapper does, by several threads, each with a map of a region, in which it
+    """Does scans as a ScanMapper does, by several threads, each with a map of a region, in which it
     does the beams that come near to it. Then one that is done merges its map with that of another
     one that is, while others still map.
 
@@ -180,7 +180,7 @@ class ParallelMapper:
 
     def _adder(self, number, world):
         """Does in a map its part of a scan."""
-        mapper = Mapper(world, self.reach)
+        mapper = ScanMapper(world, self.reach)
 
         def add(item):
             scan, numbers = item

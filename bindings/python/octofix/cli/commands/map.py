@@ -23,7 +23,7 @@ from octofix.io.errors import Unusable
 from octofix.io.lengths import metres, nanometres
 from octofix.io.notes import say
 from octofix.io.options import Input, add_scans, length, whole
-from octofix.mapping.mapper import Mapper
+from octofix.mapping.mapper import ScanMapper
 from octofix.mapping.maps import read_map_with, tell_origin, write_map
 from octofix.mapping.parallel import ParallelMapper, RegionMapper
 from octofix.mapping.surveys import PlacedMap, expect_subtracted, the_one
@@ -164,7 +164,7 @@ def _mapper_of(options, script):
         return ParallelMapper(lambda: _map_of(options), jobs, options.range, script)
     if options.region:
         return RegionMapper(_map_of(options), *options.region, options.range, script)
-    return Mapper(_map_of(options), options.range, script)
+    return ScanMapper(_map_of(options), options.range, script)
 
 
 def _expect_start(options):

@@ -7,7 +7,7 @@ import warnings
 import numpy as np
 
 from ..errors import Unusable, failing_as
-from .cloud import Cloud, only, xyz_of
+from .cloud import RawCloud, only, xyz_of
 from .columns import places_of
 
 # Columns that are rather points of an array whose rows are x, y and z.
@@ -23,7 +23,7 @@ def read_npy(name, content, reading):
     with the fields x, y and z or those that are asked."""
     array = array_of(content)
     if array.dtype.names:
-        return only(Cloud(name, _of_records(array, reading.columns)))
+        return only(RawCloud(name, _of_records(array, reading.columns)))
     if array.ndim != 2 or array.shape[1] < 3 or array.dtype.kind not in "fiu":
         raise Unusable(f"{shape_of(array)}, and n x 3 numbers are needed")
     many, width = array.shape
@@ -35,7 +35,7 @@ def read_npy(name, content, reading):
         row = ", ".join(map(str, array[:1].ravel().tolist()))
         raise Unusable(f"{said} (as --columns 1,2,3): {row[:80]}")
     columns = places_of([], width, reading.columns or ["1", "2", "3"], "its array")
-    return only(Cloud(name, array if columns == list(range(width)) else array[:, columns]))
+    return only(RawCloud(name, array if columns == list(range(width)) else array[:, columns]))
 
 
 def array_of(content):

@@ -9,7 +9,7 @@ import numpy as np
 from ..errors import Unusable, failing_as
 from ..optional import needed
 from ..trajectory import Nearness, Track
-from .cloud import Cloud, xyz_of
+from .cloud import RawCloud, xyz_of
 from .rosbags import POSES, opened, pose_in
 from .transforms import Frames
 
@@ -56,7 +56,7 @@ def _clouds_in(name, topics):
             stamp = message.header.stamp.to_sec()
             pose, gap = where(message.header.frame_id, stamp)
             points = points_in(message)
-            yield Cloud(f"{name} {topic} {stamp:.6f}", points, pose, stamp, notes, gap)
+            yield RawCloud(f"{name} {topic} {stamp:.6f}", points, pose, stamp, notes, gap)
             notes = ()
 
 

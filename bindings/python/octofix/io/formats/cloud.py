@@ -9,7 +9,7 @@ from .columns import AXES
 
 
 @dataclass(frozen=True)
-class Cloud:
+class RawCloud:
     """Points of one scan, with what the file says of it.
 
     points: (n, 3) in metres, of any kind of numbers; pose: where the file says that the sensor

@@ -11,7 +11,7 @@ from ..files import expect_room
 from ..memory import free_memory
 from ..optional import needed
 from .arrays import array_of, shape_of
-from .cloud import Cloud, only
+from .cloud import RawCloud, only
 
 PNG = b"\x89PNG"
 # What Pillow calls a picture of 16 bits.
@@ -55,7 +55,7 @@ def read(name, content, reading):
     if depths.dtype.kind != "f" and reading.camera.units is None:
         said = "how many of its units are a metre isn't said"
         raise Unusable(f"{said} (--depth-scale: 1000 for millimetres, 5000 for TUM's)")
-    return only(Cloud(name, reading.camera.points(depths), notes=(AXES,), is_optical=True))
+    return only(RawCloud(name, reading.camera.points(depths), notes=(AXES,), is_optical=True))
 
 
 def _picture(content):

@@ -6,7 +6,7 @@ import numpy as np
 
 from ..errors import Unusable
 from ..poses import Pose
-from .cloud import Cloud
+from .cloud import RawCloud
 
 # Each vector begins with its number of coordinates.
 POINT = np.dtype([("size", "<u4"), ("at", "<f8", 3)])
@@ -27,7 +27,7 @@ def read(name, content, reading):
         if (three, four) != (3, 4) or (records["size"] != 3).any():
             raise Unusable(f"node {number} isn't as log2graph writes it")
         pose = Pose.read(numbers[:3], numbers[3:7])
-        yield Cloud(f"{name} node {number}", records["at"].copy(), pose)
+        yield RawCloud(f"{name} node {number}", records["at"].copy(), pose)
         at = end + POSE.size
 
 

@@ -8,7 +8,7 @@ from ..errors import failing_as
 from ..files import expect_room
 from ..memory import free_memory
 from ..optional import needed
-from .cloud import Cloud, only, stacked
+from .cloud import RawCloud, only, stacked
 from .columns import places_of
 
 
@@ -22,4 +22,4 @@ def read(name, content, reading):
         expect_room(header.point_count * header.point_format.size, free_memory() // 2)
         found = file.read()
         axes = [np.asarray(it, float) for it in (found.x, found.y, found.z)]
-        return only(Cloud(name, stacked(axes)))
+        return only(RawCloud(name, stacked(axes)))

@@ -6,7 +6,7 @@ import re
 from ..errors import Unusable, on_line
 from ..kinds import cut_of
 from ..poses import Pose, numbers_of, of_angles
-from .cloud import Cloud
+from .cloud import RawCloud
 from .tables import table_of
 
 NODE = re.compile(rb"(?m)^NODE\b.*$")
@@ -28,7 +28,7 @@ def read(name, content, reading):
         body = content[head.end() + 1 : end]
         points = table_of(body, [0, 1, 2], line + 1)
         cut = cut_of(name, content) if end == len(content) else None
-        yield Cloud(f"{name} node {number}", points, pose, cut=cut)
+        yield RawCloud(f"{name} node {number}", points, pose, cut=cut)
 
 
 def _pose_of(row, line):

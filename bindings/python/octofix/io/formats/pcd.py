@@ -9,7 +9,7 @@ from ..files import expect_room
 from ..kinds import cut_of
 from ..memory import free_memory
 from ..poses import Pose, numbers_of
-from .cloud import Cloud, only, stacked, xyz_of
+from .cloud import RawCloud, only, stacked, xyz_of
 from .columns import AXES, places_of
 from .headers import count_of, header_lines
 from .lzf import unpacked
@@ -56,7 +56,7 @@ def read(name, content, reading):
     points = {"ascii": _of_text, "binary": _of_records, "binary_compressed": _of_compressed}
     pose = None if header.viewpoint.is_identity() else header.viewpoint
     cut = cut_of(name, content) if header.ends_with_axis() else None
-    return only(Cloud(name, points[header.form](body, header), pose, cut=cut))
+    return only(RawCloud(name, points[header.form](body, header), pose, cut=cut))
 
 
 def _header_of(content, asked):

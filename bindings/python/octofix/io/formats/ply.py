@@ -6,7 +6,7 @@ import numpy as np
 
 from ..errors import Unusable, on_line
 from ..kinds import cut_of
-from .cloud import Cloud, only, xyz_of
+from .cloud import RawCloud, only, xyz_of
 from .columns import AXES, places_of
 from .headers import count_of, header_lines
 from .tables import table_of
@@ -55,7 +55,7 @@ def read(name, content, reading):
         start += sum(it.many * it.size() for it in before)
         points = _of_records(content, start, ORDERS[form], vertex, places)
         _check_end(content, start + vertex.many * vertex.size(), ORDERS[form], after)
-    return only(Cloud(name, points, cut=cut))
+    return only(RawCloud(name, points, cut=cut))
 
 
 def _elements_of(lines):

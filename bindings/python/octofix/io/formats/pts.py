@@ -3,7 +3,7 @@
 from ..errors import Unusable
 from ..kinds import cut_of, refuse_unread
 from . import text
-from .cloud import Cloud, only
+from .cloud import RawCloud, only
 from .columns import AXES, places_of
 from .headers import count_of
 from .tables import table_of, words_of
@@ -26,4 +26,4 @@ def read(name, content, reading):
     if len(points) != many:
         raise Unusable(f"its data has {len(points)} lines, and {many} points are announced")
     cut = cut_of(name, content) if width - 1 in columns else None
-    return only(Cloud(name, points, cut=cut))
+    return only(RawCloud(name, points, cut=cut))

@@ -113,7 +113,7 @@ def is_bag(name, form=None):
 
 
 def clouds_in(name, reading):
-    """Each Cloud of a file in turn; Unusable where it can't be read."""
+    """Each RawCloud of a file in turn; Unusable where it can't be read."""
     try:
         form, clouds = _opened(name, reading)
         with failing_as(f"the form {form}"):
@@ -123,7 +123,7 @@ def clouds_in(name, reading):
 
 
 def clouds_again(name, reading):
-    """Each Cloud of a file that is read once more later; of a pipe the content is kept."""
+    """Each RawCloud of a file that is read once more later; of a pipe the content is kept."""
     kept = {} if os.path.isfile(name) else {name: read_bytes(name)}
     reading.kept.update(kept)
     try:

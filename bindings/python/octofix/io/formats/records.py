@@ -6,7 +6,7 @@ import numpy as np
 
 from ..errors import Unusable
 from ..lengths import FARTHEST, NANO
-from .cloud import Cloud, only
+from .cloud import RawCloud, only
 from .columns import AXES, places_of
 
 BRIGHTEST = 255
@@ -79,7 +79,7 @@ def _records_of(content):
 def _cloud(name, content, reading, records):
     rows, asked = records.table(content), reading.columns or _first(records)
     columns = places_of(records.names, records.width, asked, "a record")
-    return only(Cloud(name, rows[:, columns]))
+    return only(RawCloud(name, rows[:, columns]))
 
 
 def records_of(word):

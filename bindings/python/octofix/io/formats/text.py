@@ -6,7 +6,7 @@ from dataclasses import dataclass, field
 from ..errors import Unusable, on_line
 from ..kinds import cut_of
 from ..poses import is_number, refuse_commas
-from .cloud import Cloud, only
+from .cloud import RawCloud, only
 from .columns import AXES, places_of
 from .tables import table_of, words_of
 
@@ -29,7 +29,7 @@ def read(name, content, reading):
     # (whoever asks for columns knows that lines may have words beyond them)
     width = None if asked else front.width
     points = table_of(body, columns, front.lines + 1, front.delimiter, width=width)
-    return only(Cloud(name, points, notes=notes, cut=cut))
+    return only(RawCloud(name, points, notes=notes, cut=cut))
 
 
 @dataclass(frozen=True)

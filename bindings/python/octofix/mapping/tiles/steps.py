@@ -21,7 +21,7 @@ from octofix.io.notes import kept
 from octofix.io.scans import Left, Scan
 from octofix.io.skips import Skips
 
-from ..mapper import Mapper
+from ..mapper import ScanMapper
 from . import folder as files
 from .beams import packed, shares, unpacked
 from .errors import BadTiles
@@ -325,7 +325,7 @@ def _fill(world: Map, folder: str, plan: Plan, name: str, told: Told) -> None:
         except Refused:
             raise _full(plan, name) from None
     world.limit(*lattice.window())
-    mapper = Mapper(world, plan.reach)
+    mapper = ScanMapper(world, plan.reach)
     shift = lattice.shift(tile) * lattice.edge
     for slice_ in gathered(folder, plan.run)["slices"][name]:
         data = _beams_of(folder, plan.run, *slice_)
