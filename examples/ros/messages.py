@@ -1,4 +1,4 @@
-"""Messages and services of ROS, of what octofix.live answers."""
+"""Messages and services of ROS, of what octofix.mapping.live answers."""
 
 import hashlib
 
@@ -65,7 +65,7 @@ class BoundingBoxQuery:
 
 
 def grid_of(grid, header):
-    """The message of an octofix.live.Grid."""
+    """The message of a Grid of octofix.mapping.live."""
     message = Grid(header=header)
     message.info.map_load_time = header.stamp
     message.info.resolution = grid.resolution

@@ -15,9 +15,8 @@ import numpy as np
 import octofix
 import rospy
 import tf2_ros
-from octofix import live
-from octofix.io.errors import Unusable
-from octofix.io.formats.bags import points_in
+from octofix.io.clouds import points_in
+from octofix.mapping import live
 from sensor_msgs.msg import PointCloud2
 from std_msgs.msg import Header
 from std_srvs.srv import Empty, EmptyResponse, Trigger, TriggerResponse
@@ -184,7 +183,7 @@ class Server:
         self.frames.note(stamp)
         try:
             self.mapper.add_cloud(stamp, points_in(message), message.header.frame_id)
-        except (Unusable, ValueError, MemoryError) as why:
+        except (ValueError, MemoryError) as why:
             rospy.logwarn_throttle(5, f"a cloud isn't mapped: {why}")
 
     def publish(self, _):

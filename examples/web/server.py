@@ -4,8 +4,8 @@
     examples/web/server.py MODULE.wasm [--port 8000] [--rounds 200]
 
 MODULE is octofix.wasm (share/octofix/web). A robot is made up that drives through a hall; a mapper
-(octofix.live) maps its clouds, and each page at http://127.0.0.1:8000/ is sent the voxels whose
-class has changed, by server-sent events. Nobody but this machine is answered.
+(octofix.mapping.live) maps its clouds, and each page at http://127.0.0.1:8000/ is sent the voxels
+whose class has changed, by server-sent events. Nobody but this machine is answered.
 """
 
 import argparse
@@ -17,7 +17,7 @@ from pathlib import Path
 import numpy as np
 
 import octofix
-from octofix import live
+from octofix.mapping import live
 
 HERE = Path(__file__).resolve().parent
 WEB = HERE.parents[1] / "bindings/web"

@@ -6,6 +6,7 @@ from pathlib import Path
 from typing import Iterator, NamedTuple
 
 PACKAGE = Path(__file__).resolve().parents[1] / "octofix"
+EXAMPLES = PACKAGE.parent / "examples", PACKAGE.parents[2] / "examples"
 # Arrays, map and files are the first one, which stands in the package itself.
 LAYERS = ("octofix", "octofix.io", "octofix.mapping", "octofix.cli", "octofix.viewer")
 # What brings all of them together, and old names of what has moved into a layer. No layer needs it.
@@ -60,6 +61,24 @@ def against(package: Path) -> list[str]:
     return found
 
 
+def public_names(module: str) -> set[str]:
+    """The names that a module of the package lists as public; none where it isn't public itself."""
+    place = PACKAGE.parent.joinpath(*module.split("."))
+    file = place / "__init__.py" if place.is_dir() else place.with_suffix(".py")
+    for it in ast.parse(file.read_text("utf-8")).body if file.is_file() else ():
+        if isinstance(it, ast.Assign) and ast.unparse(it.targets[0]) == "__all__":
+            return set(ast.literal_eval(it.value))
+    return set()
+
+
+def is_public(name: str) -> bool:
+    """Whether each word of a name stands in the list of what is before it; old names do, too."""
+    module, _, last = name.rpartition(".")
+    if not module or name in ABOVE | set(LAYERS):
+        return "_" not in last
+    return last in public_names(module) and is_public(module)
+
+
 class Layers(unittest.TestCase):
     def test_the_package(self):
         self.assertEqual(against(PACKAGE), [])
@@ -92,6 +111,23 @@ class Layers(unittest.TestCase):
             "mapping/live.py:2: octofix.viewer.page.page",
             "viewer/__init__.py:1: octofix._program.main",
         ])  # fmt: skip
+
+    def test_examples_import_what_is_public(self):
+        files = [it for folder in EXAMPLES for it in sorted(folder.rglob("*.py"))]
+        self.assertIn("octofix_server.py", {it.name for it in files})
+        for file in files:
+            for it in ast.walk(ast.parse(file.read_text("utf-8"))):
+                if isinstance(it, ast.ImportFrom) and (it.module or "").split(".")[0] == "octofix":
+                    for alias in it.names:
+                        name = f"{it.module}.{alias.name}"
+                        self.assertTrue(is_public(name), f"{file}:{it.lineno}: {name}")
+
+    def test_what_is_public(self):
+        for it in ("Map", "live", "io.clouds.read", "mapping.tiles", "viewer.colours.by_height"):
+            self.assertTrue(is_public(f"octofix.{it}"), it)
+        for it in ("_map", "io.errors.Unusable", "io.formats.bags.points_in", "mapping.live.planes",
+                   "cli.command.main"):  # fmt: skip
+            self.assertFalse(is_public(f"octofix.{it}"), it)
 
     def test_each_layer_is_there(self):
         for it in LAYERS[1:]:

@@ -14,7 +14,7 @@ from __future__ import annotations
 import math
 import os
 from dataclasses import dataclass
-from typing import Iterator, Sequence
+from typing import Any, Iterator, Sequence
 
 import numpy as np
 import numpy.typing as npt
@@ -22,14 +22,14 @@ import numpy.typing as npt
 from octofix._files import PathLike
 
 from .errors import MissingLibrary, Unusable
-from .formats import Reading, clouds_in
+from .formats import Reading, bags, clouds_in
 from .formats.bags import Topics
 from .formats.depth import Camera
 from .formats.reading import FORMS as _FORMS
 from .formats.records import records_of
 from .poses import Pose
 
-__all__ = ["FORMS", "BadCloud", "Cloud", "NoReader", "Pose", "read"]
+__all__ = ["FORMS", "BadCloud", "Cloud", "NoReader", "Pose", "points_in", "read"]
 
 FORMS: tuple[str, ...] = tuple(_FORMS)
 
@@ -121,6 +121,18 @@ def read(
     reading = Reading(form, named, topics, allow_empty, records, array, pinhole)
     name = os.fsdecode(path)
     return _clouds("./-" if name == "-" else name, reading)  # (which isn't the standard input)
+
+
+def points_in(message: Any) -> npt.NDArray[Any]:
+    """The points of a message of sensor_msgs/PointCloud2, (n, 3) in metres in the sensor's frame, as
+    it has them: some may not be finite.
+
+    BadCloud where it lacks x, y or z, or its sizes don't fit.
+    """
+    try:
+        return bags.points_in(message)
+    except Unusable as bad:
+        raise BadCloud(str(bad), bad.why) from bad
 
 
 def _camera(camera: Sequence[float], scale: float | None) -> Camera:

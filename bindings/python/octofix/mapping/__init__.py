@@ -1,1 +1,3 @@
 """Maps made of clouds: `live` while they come, `tiles` of any extent."""
+
+__all__ = ["live", "tiles"]

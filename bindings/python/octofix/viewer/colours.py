@@ -6,6 +6,8 @@ from octofix.mapping.leaves import FREE, OCCUPIED, UNKNOWN
 
 from . import looks
 
+__all__ = ["by_class", "by_height"]
+
 ANCHORS = np.array(looks.ANCHORS)
 BY_CLASS = {UNKNOWN: (200, 200, 200), FREE: (255, 255, 255), OCCUPIED: (40, 40, 40)}
 BACKGROUND = (255, 255, 255)
