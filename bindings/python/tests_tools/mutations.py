@@ -1,17 +1,24 @@
 """Files of all kinds that the tools read, and damage to them."""
 
+from __future__ import annotations
+
 import gzip
 import importlib
 import importlib.util
 import io
 import random
 import re
-from dataclasses import dataclass
+import struct
+import os
+import shutil
+import tempfile
+from dataclasses import dataclass, field
 
 import numpy as np
 from running import DATA
 
-from octofix import Map
+from octofix import Map, tiles
+from octofix.mapping.maps import OT_READER
 
 NUMBER = re.compile(rb"[-+]?[0-9]+(?:\.[0-9]+)?")
 WORDS = b"nan -1 1e400 1e200 99999999999999 4294967295 0 1_0 0x10 -".split() + [b""]
@@ -19,17 +26,24 @@ BYTES = [bytes([it]) for it in b"\0\xff\x7f\x80\n\r #,\xc3"]
 # (NaNs that signal, of 32 and 64 bits, and the front of gzip's)
 BYTES += [b"\xff\xff\xa0\x7f", b"\xff\xff\xff\xff\xff\xff\xf4\x7f", b"\x1f\x8b"]
 POINTS = np.array([[2, -0.5, 0], [1, 0, -0.4], [0.5, 1.5, 0.25], [-1, 2, 1]])
+# The way from the root to the voxel beyond the origin, which is occupied, and one that is free.
+OT = b"# Octomap OcTree file\nid OcTree\nsize 18\nres 0.5\ndata\n"
+OT += struct.pack("<fB", 0.85, 0x80) + struct.pack("<fB", 0.85, 1) * 14
+OT += b"".join(struct.pack("<fB", *it) for it in ((0.85, 3), (0.85, 0), (-0.4, 0)))
 EUROC = b"#timestamp, p_x [m], p_y [m], p_z [m], q_w [], q_x [], q_y [], q_z []\n"
 EUROC += b"1403636579763555584,1,2,3,1,0,0,0\n"
 
 
 @dataclass(frozen=True)
 class Sample:
-    """A whole file of some kind, and the words of a command that reads it as `name`."""
+    """A whole file of some kind, and the words of a command that reads it as `name`, beside files
+    of other names, and writes to `output`, or to none."""
 
     name: str
     content: bytes
     words: tuple
+    output: str | None = "out.bt"
+    beside: dict = field(default_factory=dict)
 
 
 def samples(has_bags):
@@ -55,13 +69,63 @@ def samples(has_bags):
         found += [_cloud(".bag", bag, *it) for it in (poses, ("--frame", "odom"))]
     found += [_poses(DATA.joinpath("poses.tum").read_bytes(), 3), _poses(EUROC, 1)]
     found.append(_poses(b"0 -1 0 1 1 0 0 2 0 0 1 3\n1 0 0 0 0 1 0 0 0 0 1 4\n", 2))
+    found.append(_poses(b"1 0 0 5\n0 1 0 6\n0 0 1 7\n0 0 0 1\n", 1))
+    found.append(_poses(b"# x y z qw qx qy qz\n1 2 3 1 0 0 0\n4 5 6 0 1 0 0\n", 2))
     times = ("map", "--res", "100", "--quiet", "--poses", DATA / "poses.tum", "--times", "times")
     found.append(Sample("times", b"1.5\n", (*times, "--tolerance", "9", DATA / "corner.xyz")))
+    return found + _maps() + _tiles()
+
+
+# What reads a map, and what it writes.
+BOX = ("--box", 0, 0, 0, 1, 1, 1)
+READERS = (
+    (("crop", "map", *BOX), "out.bt"), (("coarsen", "map", "--depth", 14), "out.bt"),
+    (("merge", "map", "other"), "out.bt"), (("merge", "other", "map"), "out.bt"),
+    (("map", "--quiet", "--from", "map", DATA / "corner.xyz"), "out.bt"),
+    (("points", "map", *BOX, "--what", "frontier"), "out.ply"), (("view", "map"), "out.html"),
+    (("grid", "map"), "out.pgm"), (("info", "map"), None), (("compare", "map", "other"), None),
+    (("check", "map", "--quiet", DATA / "corner.xyz"), None),
+)  # fmt: skip
+
+
+def _maps():
+    """Maps of each kind; .ot files where the program is there that reads these."""
     with Map(0.5) as world:
         world.scan(POINTS)
-        for content in (world.to_bt(), world.to_snapshot()):
-            found.append(Sample("map", content, ("crop", "map", "--box", 0, 0, 0, 1, 1, 1)))
-    return found
+        beside = {"other": world.to_snapshot()}
+        kinds = [world.to_bt(), world.to_snapshot()]
+    kinds += [OT] * bool(shutil.which(OT_READER))
+    return [
+        Sample("map", content, words, output, beside)
+        for content in kinds
+        for words, output in READERS
+        # (whose log-odds are others)
+        if (content, words[0]) != (OT, "merge")
+    ]
+
+
+def _tiles():
+    """Each file of some tiles, read by each of their commands."""
+    with tempfile.TemporaryDirectory() as folder:
+        with tiles.create(folder, 0.5, edge=8) as town:
+            town.add([(POINTS, (0, 0, 0)), (POINTS, (7, 0, 0))])
+        files = {}
+        for place, _, names in os.walk(folder):
+            for name in names:
+                path = os.path.join(place, name)
+                with open(path, "rb") as file:
+                    files[os.path.join("town", os.path.relpath(path, folder))] = file.read()
+    commands = (
+        (("info", "town"), None), (("check", "town"), None), (("points", "town"), "out.ply"),
+        (("grid", "town"), "out.pgm"), (("view", "town"), "out.html"),
+        (("crop", "town", *BOX), "out.bt"), (("add", "town", "--quiet", DATA / "corner.xyz"), None),
+    )  # fmt: skip
+    names = [it for it in sorted(files) if not it.endswith("lock")]
+    return [
+        Sample(name, files[name], ("tiles", *words), output, files)
+        for name in names
+        for words, output in commands
+    ]
 
 
 def _cloud(ending, content, *words):

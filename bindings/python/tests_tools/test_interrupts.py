@@ -38,6 +38,45 @@ def say(text):
 command.say = say
 _program.run()
 """
+# A second signal on the way from where the first one is raised to the end.
+ON_THE_WAY = """
+import os, signal
+from octofix._program import run
+from octofix.cli import interrupts
+held = interrupts.Interrupts.held
+def come(it, what):
+    if what == interrupts.END:
+        os.kill(os.getpid(), signal.SIGINT)
+    return held(it, what)
+interrupts.Interrupts.held = come
+run()
+"""
+CLEANING = """
+import os, signal
+from octofix._program import run
+from octofix import _files
+discard = _files.Output.discard
+def come(it):
+    os.kill(os.getpid(), signal.%s)
+    discard(it)
+_files.Output.discard = come
+run()
+"""
+# One that is raised as an object goes, where Python can't raise it further.
+LOST = """
+import os, signal
+from octofix._program import run
+from octofix.cli import command
+class Gone:
+    def __del__(self):
+        os.kill(os.getpid(), signal.SIGINT)
+parsed = command._parsed
+def parse(*words):
+    Gone()
+    return parsed(*words)
+command._parsed = parse
+run()
+"""
 # A numpy during whose import signals come, and what they raise is lost.
 INTERRUPTING = """
 import os, signal, sys
@@ -161,6 +200,30 @@ class Reading(Processes):
             self.ends(self.map("a.xyz"), said, status)
             self.assertEqual(content_of("a.bt"), OLD_MAP)
 
+    def test_twice_on_the_way(self):
+        """The second one ends it; a terminal that is closed sends several."""
+        self.pipe()
+        for code, number, said, status in (
+            (ON_THE_WAY, signal.SIGINT, "", BY_CTRL_C),
+            (CLEANING % "SIGINT", signal.SIGINT, "octofix: ended at once: nothing is written\n",
+             BY_CTRL_C),
+            (CLEANING % "SIGHUP", signal.SIGHUP, "octofix: stopped by SIGHUP before the first "
+             "scan: nothing is written\n", 130),
+        ):  # fmt: skip
+            run = self.start("-c", code, "map", "--res", "0.1", "wait.xyz", "-o", "a.bt")
+            held = self.opened()
+            run.send_signal(number)
+            self.ends(run, said, status)
+            os.close(held)
+            self.assertEqual(content_of("a.bt"), OLD_MAP)
+
+    def test_one_that_is_lost(self):
+        """It comes again, and no traceback is shown."""
+        self.pipe()
+        run = self.start("-c", LOST, "map", "--res", "0.1", "wait.xyz", "-o", "a.bt")
+        _, said = run.communicate(timeout=30)
+        self.assertRegex(said, rb"^octofix: stopped by Ctrl-C[^\n]*\n$")
+        self.assertEqual((run.returncode, set(os.listdir())), (BY_CTRL_C, self.before))
 
     def test_twice_at_the_end(self):
         """The second one ends it, without a word."""

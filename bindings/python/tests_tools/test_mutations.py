@@ -4,16 +4,18 @@ import contextlib
 import importlib.util
 import os
 import re
+import shutil
 import signal
 import sys
 import unittest
 import warnings
 
 import mutations
-from running import OLD_MAP, InFolder, octofix
+from running import InFolder, octofix, old
 
-# More are tried by tests/tools_mutations.py.
-MANY = int(os.environ.get("OCTOFIX_MUTATIONS", "500"))
+# More are tried by tests/tools_trials.py.
+MANY = int(os.environ.get("OCTOFIX_TRIALS", "500"))
+FIRST = int(os.environ.get("OCTOFIX_TRIALS_FROM", "0"))
 LONGEST = 20
 # What may be said beside a fault.
 BESIDE = "^octofix: gap: |so the file may have been cut$"
@@ -39,6 +41,12 @@ def at_most(seconds):
         signal.signal(signal.SIGALRM, before)
 
 
+def _outputs(sample):
+    """The names of what a sample's command writes."""
+    beside = ["out.yaml"] * (sample.output == "out.pgm")
+    return [*filter(None, [sample.output]), *beside]
+
+
 class Mutations(InFolder):
     def setUp(self):
         super().setUp()
@@ -48,10 +56,11 @@ class Mutations(InFolder):
         """The samples themselves are read, so that what is damaged is a good file."""
         for sample in self.samples:
             with self.subTest(sample.name):
-                self.assertIn(self.run_on(sample, sample.content).status, (0, 3))
+                ran = self.run_on(sample, sample.content)
+                self.assertIn(ran.status, (0, 3), ran.said)
 
     def test_damaged(self):
-        for seed in range(MANY):
+        for seed in range(FIRST, FIRST + MANY):
             sample = self.samples[seed % len(self.samples)]
             content = mutations.damaged(sample.content, seed, self.samples)
             with self.subTest(f"{seed}: {sample.name}"):
@@ -59,32 +68,49 @@ class Mutations(InFolder):
 
     def run_on(self, sample, content):
         for name in os.listdir():
-            os.unlink(name)
-        for name, it in ((sample.name, content), ("out", OLD_MAP)):
+            shutil.rmtree(name) if os.path.isdir(name) else os.unlink(name)
+        files = {**sample.beside, sample.name: content}
+        files.update({it: old(it) for it in _outputs(sample)})
+        for name, it in files.items():
+            os.makedirs(os.path.dirname(name) or ".", exist_ok=True)
             with open(name, "wb") as file:
                 file.write(it)
+        self.names = {it.partition("/")[0] for it in files}
         if "rosbag" in sys.modules:
             # (it keeps types by their sums, and else no damaged definition would be looked at)
             sys.modules["rosbag"].bag._message_types.clear()
         with warnings.catch_warnings(record=True) as caught, at_most(LONGEST):
             warnings.simplefilter("always")
-            ran = octofix(*sample.words, "-o", "out")
+            output = ["-o", sample.output] if sample.output else []
+            ran = octofix(*sample.words, *output)
         self.assertEqual([str(it.message) for it in caught], [])
         return ran
 
     def judge(self, sample, ran):
-        with open("out", "rb") as file:
-            is_old = file.read() == OLD_MAP
-        kept = ["out.partial"] * ("; the map so far, of " in ran.said)
-        self.assertEqual(sorted(os.listdir()), sorted([sample.name, "out", *kept]))
+        kept = [f"{sample.output}.partial"] * ("; the map so far, of " in ran.said)
+        self.assertEqual({*os.listdir()}, {*self.names, *kept})
         self.assertIn(ran.status, (0, 1, 3), ran.said)
+        is_refused = ran.status == 1
+        for name in _outputs(sample):
+            with open(name, "rb") as file:
+                self.assertEqual(file.read() == old(name), is_refused, ran.said)
+        if is_refused and sample.words[:2] != ("tiles", "check"):
+            self.assertEqual(ran.output, b"")
+        # (what is done is told, too)
         lines = [it for it in ran.said.splitlines() if not re.search(BESIDE, it)]
-        self.assertEqual((is_old, len(lines)), (ran.status == 1,) * 2, ran.said)
-        if lines:
-            named = rf"^octofix: (no scan has a point|([^ ]*corner\w*[.]\w+|{sample.name})\b.*: )"
-            self.assertRegex(lines[0], named)
+        if "--quiet" in sample.words:
+            self.assertEqual(len(lines), is_refused, ran.said)
+        if is_refused:
+            self.assertRegex(lines[-1], self.named(sample))
         # (the readers of the package itself foresee all bytes)
         self.assertNotIn("read as the form", ran.said)
+
+    def named(self, sample):
+        """What the line of a fault names: a cloud, or the sample, or a file beside it; or else it
+        says that nothing is there."""
+        nothing = "no scan has a point|nothing is known|[0-9]+ x [0-9]+ columns are more than"
+        names = "|".join({*map(re.escape, (*sample.beside, sample.name)), "town"})
+        return rf"^octofix: ({nothing}|([^ ]*corner\w*[.]\w+|{names})\b.*: )"
 
 
 if __name__ == "__main__":

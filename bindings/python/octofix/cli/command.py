@@ -86,11 +86,14 @@ def main(commands, words=None):
         try:
             return _run(commands, words)
         except Abandoned:
+            INTERRUPTS.waits_for = END
             say("ended at once: nothing is written")
             # (what is abandoned still runs in its thread)
             INTERRUPTS.end_by_ctrl_c()
             os._exit(INTERRUPTED)
         except KeyboardInterrupt as why:
+            # (before any call, in which a second one would be raised)
+            INTERRUPTS.waits_for = END
             with INTERRUPTS.held(END):
                 say(f"stopped by {INTERRUPTS.name()}{why}")
             return INTERRUPTED

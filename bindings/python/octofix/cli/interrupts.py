@@ -5,6 +5,7 @@ import os
 import signal
 import sys
 import threading
+from functools import partial
 
 from octofix.io.notes import say
 
@@ -13,6 +14,8 @@ from .errors import INTERRUPTED
 NAMES = {signal.SIGINT: "Ctrl-C", signal.SIGTERM: "SIGTERM", signal.SIGHUP: "SIGHUP"}
 # How often it is looked whether an interrupt waits, in seconds.
 LOOK = 0.1
+# When one comes again that was lost.
+AGAIN = 0.01
 # What an interrupt waits for while the tools are imported, and when they are done.
 START, END = "the start", "the end"
 
@@ -25,22 +28,23 @@ class Interrupts:
     """What is done where one of the signals comes: a KeyboardInterrupt, or within `held` nothing
     before the caller asks by `take`; there a second one is Abandoned. At START and END it ends the
     process by itself: numpy, as it is imported, turns what is raised into faults of its own, and in
-    the end nobody is there for it."""
+    the end nobody is there for it. So it does on the way from what was raised to the end."""
 
     def __init__(self):
         self._forget()
 
     def _forget(self):
         self.first = self.waits_for = None
-        self.is_waiting = self.is_told = False
+        self.is_waiting = self.is_told = self.is_raised = False
 
     @contextlib.contextmanager
     def heard(self):
         """Hears the signals; in the main thread, which alone can."""
         self._forget()
-        before = {}
+        before, hook = {}, sys.unraisablehook
         try:
             if threading.current_thread() is threading.main_thread():
+                sys.unraisablehook = partial(self._come_again, hook)
                 for it in filter(_is_to_be_heard, NAMES):
                     before[it] = signal.signal(it, self._come)
             yield
@@ -48,19 +52,30 @@ class Interrupts:
             self.waits_for = END
             for it, handler in before.items():
                 signal.signal(it, handler)
+            sys.unraisablehook = hook
 
     def _come(self, number, _):
         # (a terminal that is closed may send several signals)
         is_second = self.first not in (None, signal.SIGHUP) and number != signal.SIGHUP
         self.first = self.first or number
-        if self.waits_for is None:
+        if self.waits_for is None and not self.is_raised:
+            self.is_raised = True
             raise KeyboardInterrupt
-        if is_second and self.waits_for in (START, END):
+        if is_second and self.waits_for in (None, START, END):
             self.end_by_ctrl_c()
             os._exit(INTERRUPTED)
         if is_second:
             raise Abandoned
         self.is_waiting = True
+
+    def _come_again(self, hook, lost):
+        """Has an interrupt come once more that was raised where nothing can be, as an object goes;
+        what else is lost goes to the hook."""
+        if not issubclass(lost.exc_type, KeyboardInterrupt):
+            hook(lost)
+            return
+        number, self.first, self.is_raised = self.first, None, False
+        threading.Timer(AGAIN, os.kill, (os.getpid(), number)).start()
 
     def name(self):
         """What came first."""

@@ -64,7 +64,7 @@ class Plan(NamedTuple):
     """What the run of this name does. `options` are those of how clouds are read, None where scans
     were given; `reach` cuts beams, in metres; `stamps` are the bytes and the times of the clouds,
     and `beside` those of what else is read, by name; `chunks` has the first cloud of each piece and
-    that behind its last."""
+    that behind its last. A quiet one says faults alone."""
 
     run: str
     version: str
@@ -76,6 +76,7 @@ class Plan(NamedTuple):
     beside: dict[str, list[int]]
     chunks: list[list[int]]
     skipped: int = 0
+    is_quiet: bool = False
 
     @property
     def number(self) -> int:
@@ -83,7 +84,7 @@ class Plan(NamedTuple):
 
     def does_the_same(self, other: Plan) -> bool:
         """Whether both read the same into the same tiles."""
-        apart = {"run": "", "skipped": 0}
+        apart = {"run": "", "skipped": 0, "is_quiet": False}
         return self._replace(**apart) == other._replace(**apart)
 
 
@@ -148,7 +149,7 @@ def planned(options: argparse.Namespace, settings: Settings, run: str, version: 
     stamps = [stamp_of(it) for it in scans.names]
     chunks = _chunks(scans, [size for size, _ in stamps])
     names, skipped = [str(it) for it in scans.names], scans.skips.count
-    read = names, stamps, beside, chunks, skipped
+    read = names, stamps, beside, chunks, skipped, options.quiet
     return Plan(run, version, settings.asdict(), spelled, options.range, *read)
 
 

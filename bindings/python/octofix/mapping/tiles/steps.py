@@ -190,7 +190,7 @@ def _scans_of(folder: str, run: str, chunk: int):
     scans.skips = Skips(plan.options["on_error"] == "skip")
     scans.left, scans.gaps = Left(), 0
     # (what is said once is said of the first)
-    scans.said, scans.is_quiet = set(), chunk > 0
+    scans.said, scans.is_quiet = set(), plan.is_quiet or chunk > 0
     return scans
 
 
