@@ -1,5 +1,7 @@
 """Maps of a few large blocks: what is told of them, and what casts, frontiers, pictures and tables
-of two files make of them; and scans near voxel 0."""
+of two files make of them; and scans near voxel 0, one by one and by the definition."""
+from itertools import product
+
 from row import Built, Row, data, short_bt
 from tables import data_of, table_of
 from worked import CUBE, FREE_FILE, WHOLE
@@ -224,6 +226,42 @@ def scanned(reach, ends, box, hits, frees, need):
               f"ok / {done} / {''.join(blocks)}end {len(blocks)}")
 
 
-ROWS = QUERIES + CASTS + FRONTIERS + PICTURES + TABLES + [
+# Points near the middle of the map, in half edges from the lower corner of a block of three voxels
+# on each axis, and these voxels.
+POINTS, NEAR = list(product((0, 1, 3, 4), repeat=3)), list(product((0, 1, 2), repeat=3))
+
+
+def is_met(start, end, voxel):
+    """Whether a segment has a point in a voxel: it crosses faces at twelfths of its way alone, so
+    that one of its 24ths lies in each voxel that it meets."""
+    return any(all(48 * n <= (24 - part) * a + part * b < 48 * (n + 1)
+                   for a, b, n in zip(start, end, voxel)) for part in range(25))
+
+
+def beams():
+    """A beam between each two of the points, and a list of what it has left in an empty map."""
+    for start, end in product(POINTS, repeat=2):
+        origin = " ".join(f"{(5 * n - 10) / 100}" for n in start)
+        point = " ".join(f"{5 * (b - a) / 100}" for a, b in zip(start, end))
+        yield (f"scan {origin} 1 0 0 0 all\np {point}\nend\n"
+               "list -0.1 -0.1 -0.1 0.1 0.1 0.1 16\nclear\n").encode()
+
+
+def left_by_beams():
+    """What each leaves: the voxel of its end is hit, and each other one that it meets is freed."""
+    for start, end in product(POINTS, repeat=2):
+        met = [voxel for voxel in NEAR if is_met(start, end, voxel)]
+        last = tuple(n // 2 for n in end)
+        yield f"ok hits 1 frees {len(met) - 1}\n".encode()
+        for voxel in met:
+            value = "850 occupied" if voxel == last else "-400 free"
+            yield "block {} {} {} {}\n".format(*(32767 + n for n in voxel), value).encode()
+        yield f"end {len(met)}\nok\n".encode()
+
+
+BEAMS = [Row("A beam meets the voxels in which it has a point", "session 0.1",
+             lambda: b"".join(beams()), lambda: b"".join(left_by_beams()))]
+
+ROWS = BEAMS + QUERIES + CASTS + FRONTIERS + PICTURES + TABLES + [
     row for case in SCANS for row in scanned(*case)
 ]
