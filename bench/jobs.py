@@ -46,16 +46,15 @@ def mapped(scans, region=None):
 
 def reckoned(given, scans, count, read, alone, wanted):
     """Prints what a number of regions costs; what is wrong with it."""
-    from octofix.mapping.parallel import is_safe, regions_of
-    from octofix.mapping.regions import parted, regions_in
+    from octofix.mapping.parallel import needs_no_judge, regions_of
 
     edge = round(RESOLUTION * 1e9)
-    tree, cutting = timed(lambda: regions_of(given, count, edge, REACH))
+    cuts, cutting = timed(lambda: regions_of(given, count, edge, REACH))
     limits = wanted.limits
-    _, judging = timed(lambda: [is_safe(it, edge, REACH, limits) for it in scans])
-    numbers, parting = timed(lambda: [parted(it, tree, edge, REACH) for it in scans])
+    _, judging = timed(lambda: [needs_no_judge(it, edge, REACH, limits) for it in scans])
+    numbers, parting = timed(lambda: [cuts.near(it, edge, REACH) for it in scans])
     walks, worlds = [], []
-    for place, region in enumerate(regions_in(tree)):
+    for place, region in enumerate(cuts.regions):
         few = [replace(it, points=it.points[which[place]]) for it, which in zip(scans, numbers)]
         world, seconds = mapped(few, region)
         walks.append(seconds)

@@ -5,10 +5,10 @@
 //     octofix::map world = mapper.finish();              // that of one thread, to the voxel
 //
 // Each thread has a map of a region, in which it does the beams of all scans that come near to it.
-// Points are turned once for all of them. In finish() a thread that is done merges its map with
-// that of another one that is, while the others still map. The regions are cut where the first
-// scans walk through most, before which no scan is done; the later ones are done as fast where they
-// go there, too.
+// A scan is turned and shared out once for all of them, by whichever thread is ahead. In finish() a
+// thread that is done merges its map with that of another one that is, while the others still map.
+// The regions are cut where the first scans walk through most, before which no scan is done; the
+// later ones are done as fast where they go there, too.
 #ifndef OCTOFIX_MAPPER_HPP
 #define OCTOFIX_MAPPER_HPP
 
@@ -64,7 +64,7 @@ class mapper {
         : threads_(threads ? threads : std::max(1u, std::thread::hardware_concurrency())),
           points_to_cut_by_(points_to_cut_by), log_odds_(log_odds), most_(most),
           judge_(res, log_odds, most) {
-        constexpr int last = detail::region::last;
+        constexpr std::int32_t last = OCTOFIX_HIGHEST;
         if (threads_ > 1) detail::limit(judge_, {{last, last, last}, {last, last, last}});
     }
     /// The same by so many threads, with the log-odds and limits of a map().
@@ -81,17 +81,12 @@ class mapper {
     /// refuses throws refused at once, and isn't done. Where one has no room, or memory runs out,
     /// others may have done the scan: this call, or a later one, throws that, and each after it.
     void add(const pose &sensor, std::vector<point> points, const scan_options &how = {}) {
-        check();
-        detail::sighting seen{sensor, how, std::move(points)};
-        if (threads_ > 1) try_it([&] { seen = detail::upright(std::move(seen)); });
-        judge_.scan(seen.sensor, seen.points, how);
-        if (threads_ > 1) try_it([&] { accept(std::move(seen)); });
+        add({sensor, std::nullopt, how, std::move(points)});
     }
 
     /// The same, with points that are turned in double.
-    void add(const turned_pose &sensor, const std::vector<point> &points,
-             const scan_options &how = {}) {
-        add(detail::upright_at(sensor.at), detail::turned_ways(sensor.by, points), how);
+    void add(const turned_pose &sensor, std::vector<point> points, const scan_options &how = {}) {
+        add({detail::upright_at(sensor.at), sensor.by, how, std::move(points)});
     }
 
     /// The map of all scans. There are no more after it.
@@ -108,6 +103,8 @@ class mapper {
     }
 
   private:
+    using crew = detail::crew<detail::shared_scan>;
+
     static constexpr std::size_t beams_to_cut_by = std::size_t{1} << 12;
 
     /// Throws where the map is given away, and what an earlier call has thrown midway.
@@ -124,8 +121,26 @@ class mapper {
             throw;
         }
     }
+    void add(detail::sighting seen) {
+        check();
+        if (threads_ == 1 || !is_safe(seen)) {
+            try_it([&] { seen = detail::upright(std::move(seen)); });
+            judge_.scan(seen.sensor, seen.points, seen.how);
+        }
+        if (threads_ > 1) try_it([&] { accept(std::move(seen)); });
+    }
+    /// Whether no region refuses a scan, but one that is full, as far as is soon seen: without its
+    /// points the judge does it.
+    bool is_safe(const detail::sighting &seen) {
+        try {
+            judge_.scan(seen.sensor, std::vector<point>{}, seen.how);
+        } catch (const refused &) {
+            return false; // (what it is refused for then may be another thing)
+        }
+        return detail::is_safe(seen, judge_.settings());
+    }
     void accept(detail::sighting seen) {
-        if (crew_) return put(seen);
+        if (crew_) return put(std::move(seen));
         points_ += seen.points.size();
         first_.push_back(std::move(seen));
         if (points_ >= points_to_cut_by_) begin();
@@ -133,32 +148,30 @@ class mapper {
     /// Cuts the regions, and has the scans done that have waited for that.
     void begin() {
         const double res = judge_.resolution();
-        regions_ = regions();
-        for (const detail::region &it : regions_) {
+        cuts_.emplace(samples(), threads_);
+        for (const octofix_region &it : cuts_->regions()) {
             maps_.emplace_back(res, log_odds_, most_);
             detail::limit(maps_.back(), it);
         }
-        std::vector<detail::crew<detail::shares>::task> tasks;
+        std::vector<crew::task> tasks;
         for (std::size_t i = 0; i < maps_.size(); ++i)
-            tasks.push_back([this, i](const detail::shares &it) {
-                maps_[i].scan(it.sensor, it.points[i], it.how);
-            });
-        crew_ = std::make_unique<detail::crew<detail::shares>>(
-            std::move(tasks), [this](std::size_t i) { join(std::move(maps_[i])); });
-        for (const detail::sighting &it : std::exchange(first_, {})) put(it);
+            tasks.push_back([this, i](const detail::shared_scan &it) { it.scan(maps_[i], i); });
+        const std::int64_t edge = judge_.settings().res;
+        crew_ = std::make_unique<crew>(
+            std::move(tasks), [this, edge](detail::shared_scan &it) { it.share_out(*cuts_, edge); },
+            [this](std::size_t i) { join(std::move(maps_[i])); });
+        for (detail::sighting &it : std::exchange(first_, {})) put(std::move(it));
     }
-    std::vector<detail::region> regions() const {
+    std::vector<octofix_sample> samples() const {
         const std::size_t each = beams_to_cut_by / (first_.size() + 1) + 1;
-        std::vector<detail::sampled> samples;
+        std::vector<octofix_sample> found;
         for (const detail::sighting &it : first_)
-            detail::add_samples(samples, it, judge_.settings().res, each);
-        return detail::cutter(samples).cut(threads_);
+            detail::add_samples(found, it, judge_.settings().res, each);
+        return found;
     }
-    void put(const detail::sighting &seen) {
-        auto all = std::make_shared<const detail::shares>(
-            detail::share_out(seen, regions_, judge_.settings().res));
-        const std::size_t size = all->size();
-        crew_->put(std::move(all), size);
+    void put(detail::sighting seen) {
+        const std::size_t size = seen.points.size();
+        crew_->put(std::make_unique<detail::shared_scan>(std::move(seen)), size);
     }
     /// Merges a map with those that other threads have laid down, and lays it down itself where
     /// there is none.
@@ -182,11 +195,11 @@ class mapper {
     std::size_t points_ = 0;
     bool is_finished_ = false;
     std::exception_ptr fault_;
-    std::vector<detail::region> regions_;
+    std::optional<detail::cuts> cuts_;
     std::vector<map> maps_;
     std::mutex joining_;
     std::optional<map> joined_; // of threads that are done
-    std::unique_ptr<detail::crew<detail::shares>> crew_; // (it ends before the maps do)
+    std::unique_ptr<crew> crew_; // (it ends before the maps do)
 };
 
 } // namespace octofix

@@ -192,7 +192,8 @@ def build_sdist(sdist_directory, config_settings=None):
     """The sources of the package, of which pip builds a wheel where there is a library."""
     top = f"octofix-{project()['version']}"
     files = {**package_files(), **files_below(HERE / "native", "native")}
-    files["native/octofix.h"] = 0o644, octofix_compile.header().read_bytes()
+    for it in octofix_compile.headers():
+        files[f"native/{it.name}"] = 0o644, it.read_bytes()
     for it in ("pyproject.toml", "README.md", "octofix_build.py", "octofix_compile.py", COMMAND):
         files[it] = 0o644, (HERE / it).read_bytes()
     for it, text in {"PKG-INFO": metadata(), **licenses()}.items():

@@ -40,18 +40,20 @@ class Unfit(Exception):
     """Why there can be no module, in one line."""
 
 
-def header():
-    """octofix.h: it stands beside the sources in an sdist, and in bindings/c of a clone."""
-    places = SOURCES / "octofix.h", HERE.parent / "c" / "octofix.h"
-    found = next((it for it in places if it.is_file()), None)
-    if found is None:
-        raise Unfit("octofix.h isn't here")
+def headers():
+    """Those of other folders of a clone, which stand beside the sources in an sdist."""
+    found = []
+    for it in ("c/octofix.h", "cpp/octofix/cuts.h"):
+        places = SOURCES / Path(it).name, HERE.parent / it
+        found += [place for place in places if place.is_file()][:1]
+        if not found or found[-1].name != Path(it).name:
+            raise Unfit(f"{Path(it).name} isn't here")
     return found
 
 
 def sources():
     """All files of which the module is made."""
-    return [*sorted(SOURCES.glob("*.c")), SOURCES / "native.h", header()]
+    return [*sorted(SOURCES.glob("*.c")), SOURCES / "native.h", *headers()]
 
 
 def digest():
@@ -115,7 +117,7 @@ def compile_to(target, is_pinned=False, sanitized=False):
         made = Path(room, NAME)
         flags = [*FLAGS, *(SANITIZERS if sanitized else ())]
         told = [f'-DNATIVE_VERSION="{version()}"', f'-DNATIVE_SOURCES="{digest()}"']
-        folders = [f"-I{folder}", f"-I{header().parent}"]
+        folders = [f"-I{it}" for it in (folder, *(it.parent for it in headers()))]
         files = [str(it) for it in sources() if it.suffix == ".c"]
         done = subprocess.run(
             [*words, *flags, *told, *folders, "-o", str(made), *files, *LINK_FLAGS],

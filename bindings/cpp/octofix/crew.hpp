@@ -1,4 +1,5 @@
-// Threads that each do all items of one row, in its order. Part of octofix_mapper.hpp.
+// Threads that each do all items of one row, in its order, after one of them has prepared it. Part
+// of octofix_mapper.hpp.
 #ifndef OCTOFIX_CREW_HPP
 #define OCTOFIX_CREW_HPP
 
@@ -17,17 +18,20 @@
 namespace octofix::detail {
 
 /// Does each item in each thread, by a task of the thread's own, and then what each thread does
-/// last. What one of these throws ends all threads, and is thrown by each later call.
+/// last. Before that an item is prepared, once, by a thread that has nothing else to do, so that
+/// several are prepared at once, by those that are ahead. What one of these throws ends all
+/// threads, and is thrown by each later call.
 template <class Item> class crew {
   public:
     using task = std::function<void(const Item &)>;
+    using preparation = std::function<void(Item &)>;
     using last_task = std::function<void(std::size_t)>; ///< is told the number of the thread
 
     /// What waits for the slowest thread, beside one item, has at most this size.
-    explicit crew(std::vector<task> tasks, last_task last = {},
+    explicit crew(std::vector<task> tasks, preparation prepare, last_task last = {},
                   std::size_t most_waiting = std::size_t{1} << 21)
-        : tasks_(std::move(tasks)), last_(std::move(last)), most_waiting_(most_waiting),
-          done_(tasks_.size(), 0) {
+        : tasks_(std::move(tasks)), prepare_(std::move(prepare)), last_(std::move(last)),
+          most_waiting_(most_waiting), done_(tasks_.size(), 0) {
         try {
             for (std::size_t i = 0; i < tasks_.size(); ++i)
                 threads_.emplace_back([this, i] { work(i); });
@@ -41,11 +45,11 @@ template <class Item> class crew {
     ~crew() { stop(); }
 
     /// Gives an item of this size to the threads, once there is room for it.
-    void put(std::shared_ptr<const Item> item, std::size_t size) {
+    void put(std::unique_ptr<Item> item, std::size_t size) {
         std::unique_lock<std::mutex> lock(mutex_);
         moved_.wait(lock, [&] { return is_over_ || items_.empty() || has_room_for(size); });
         if (fault_) std::rethrow_exception(fault_);
-        items_.push_back({std::move(item), size});
+        items_.push_back({std::move(item), size, false});
         waiting_ += size;
         moved_.notify_all();
     }
@@ -60,17 +64,30 @@ template <class Item> class crew {
 
   private:
     struct entry {
-        std::shared_ptr<const Item> item;
+        std::unique_ptr<Item> item;
         std::size_t size;
+        bool is_ready;
+    };
+    /// What a thread is to do next: to prepare an item, or to do it; nothing without an item.
+    struct job {
+        Item *item = nullptr;
+        std::size_t number = 0;
+        bool is_to_prepare = false;
     };
 
     bool has_room_for(std::size_t size) const { return waiting_ + size <= most_waiting_; }
+    std::size_t put_so_far() const { return gone_ + items_.size(); }
 
     void work(std::size_t number) {
         try {
-            while (const std::shared_ptr<const Item> item = next(number)) {
-                tasks_[number](*item);
-                count(number);
+            for (job it = next(number); it.item; it = next(number)) {
+                if (it.is_to_prepare) {
+                    prepare_(*it.item);
+                    set_ready(it.number);
+                } else {
+                    tasks_[number](*it.item);
+                    count(number);
+                }
             }
             end(number);
         } catch (...) {
@@ -80,12 +97,27 @@ template <class Item> class crew {
             moved_.notify_all();
         }
     }
-    /// The next item of a thread; none where all is over, or it has done the last one.
-    std::shared_ptr<const Item> next(std::size_t number) {
+    /// Waits for something to do; there is nothing where all is over, or the thread has done the
+    /// last item.
+    job next(std::size_t number) {
         std::unique_lock<std::mutex> lock(mutex_);
-        const auto has_more = [&] { return done_[number] < gone_ + items_.size(); };
-        moved_.wait(lock, [&] { return is_over_ || has_more() || is_closed_; });
-        return is_over_ || !has_more() ? nullptr : items_[done_[number] - gone_].item;
+        const std::size_t &mine = done_[number];
+        const auto has_more = [&] { return mine < put_so_far(); };
+        const auto is_ready = [&] { return has_more() && items_[mine - gone_].is_ready; };
+        moved_.wait(lock, [&] {
+            return is_over_ || is_ready() || claimed_ < put_so_far() ||
+                   (is_closed_ && !has_more());
+        });
+        if (is_over_) return {};
+        if (is_ready()) return {items_[mine - gone_].item.get(), mine, false};
+        if (claimed_ == put_so_far()) return {};
+        const std::size_t claimed = claimed_++;
+        return {items_[claimed - gone_].item.get(), claimed, true};
+    }
+    void set_ready(std::size_t number) {
+        const std::lock_guard<std::mutex> lock(mutex_);
+        items_[number - gone_].is_ready = true;
+        moved_.notify_all();
     }
     /// Does what a thread does last, where not all is over.
     void end(std::size_t number) {
@@ -117,6 +149,7 @@ template <class Item> class crew {
     }
 
     std::vector<task> tasks_;
+    preparation prepare_;
     last_task last_;
     std::size_t most_waiting_;
     std::mutex mutex_;
@@ -124,6 +157,7 @@ template <class Item> class crew {
     std::deque<entry> items_;
     std::size_t waiting_ = 0, gone_ = 0; // sizes of items; how many all threads have done
     std::vector<std::size_t> done_;      // how many each
+    std::size_t claimed_ = 0;            // how many are prepared, or are being
     std::size_t ended_ = 0;              // how many threads have done all
     std::exception_ptr fault_;
     bool is_closed_ = false, is_over_ = false;

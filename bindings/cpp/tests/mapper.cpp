@@ -193,16 +193,16 @@ void try_same_refusals() {
 void try_last_tasks() {
     std::array<std::atomic<int>, 2> done{}, at_last{};
     const auto count = [&](std::size_t i) { return [&, i](const int &) { ++done[i]; }; };
-    octofix::detail::crew<int> both({count(0), count(1)},
+    octofix::detail::crew<int> both({count(0), count(1)}, [](int &) {},
                                     [&](std::size_t i) { at_last[i] = done[i].load(); });
-    for (int i = 0; i < 5; ++i) both.put(std::make_shared<const int>(i), 1);
+    for (int i = 0; i < 5; ++i) both.put(std::make_unique<int>(i), 1);
     both.finish();
     EXPECT(at_last[0] == 5 && at_last[1] == 5);
-    octofix::detail::crew<int> torn({count(0), count(1)}, [&](std::size_t i) {
+    octofix::detail::crew<int> torn({count(0), count(1)}, [](int &) {}, [&](std::size_t i) {
         if (i == 1) throw std::bad_alloc();
     });
     EXPECT(throws<std::bad_alloc>([&] { torn.finish(); }));
-    EXPECT(throws<std::bad_alloc>([&] { torn.put(std::make_shared<const int>(0), 1); }));
+    EXPECT(throws<std::bad_alloc>([&] { torn.put(std::make_unique<int>(0), 1); }));
 }
 
 /// More items than may wait for the slower of two threads.
@@ -213,14 +213,37 @@ void try_crew() {
                                          std::this_thread::sleep_for(std::chrono::milliseconds(1));
                                          done[1].push_back(it);
                                      }},
-                                    {}, 3);
+                                    [](int &it) { it *= 10; }, {}, 3);
     std::vector<int> all;
     for (int i = 0; i < 20; ++i) {
-        all.push_back(i);
-        both.put(std::make_shared<const int>(i), 2);
+        all.push_back(10 * i);
+        both.put(std::make_unique<int>(i), 2);
     }
     both.finish();
     EXPECT(done[0] == all && done[1] == all);
+}
+
+/// Two items are prepared at once, each waiting for the other one; then both are done in turn. One
+/// that can't be prepared ends all.
+void try_preparations() {
+    std::atomic<int> begun{0};
+    std::array<std::vector<int>, 2> done;
+    const auto add_to = [&](std::size_t i) {
+        return [&, i](const int &it) { done[i].push_back(it); };
+    };
+    octofix::detail::crew<int> both({add_to(0), add_to(1)}, [&](int &it) {
+        for (++begun; begun < 2;) std::this_thread::yield();
+        it += 5;
+    });
+    for (int i = 0; i < 2; ++i) both.put(std::make_unique<int>(i), 1);
+    both.finish();
+    EXPECT(done[0] == (std::vector{5, 6}) && done[1] == done[0]);
+    octofix::detail::crew<int> torn({add_to(0), add_to(1)}, [](int &) { throw std::bad_alloc(); });
+    EXPECT(throws<std::bad_alloc>([&] {
+        torn.put(std::make_unique<int>(0), 1);
+        torn.finish();
+    }));
+    EXPECT(done[0].size() == 2 && done[1].size() == 2);
 }
 
 void try_refusals() {
@@ -307,6 +330,7 @@ int main() {
     try_turned_and_parted();
     try_same_refusals();
     try_crew();
+    try_preparations();
     try_last_tasks();
     try_refusals();
     try_full();

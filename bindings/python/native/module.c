@@ -162,7 +162,7 @@ static int begin(PyObject *module) {
         PyErr_SetString(PyExc_ImportError, "octofix works in the main interpreter alone");
         return -1;
     }
-    if (add_type(module) < 0) return -1;
+    if (add_type(module) < 0 || PyModule_AddFunctions(module, region_functions) < 0) return -1;
     if (PyModule_AddStringConstant(module, "version", NATIVE_VERSION) < 0) return -1;
     return PyModule_AddStringConstant(module, "sources", NATIVE_SOURCES);
 }

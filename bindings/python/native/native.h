@@ -171,6 +171,7 @@ static inline size_t least(size_t one, size_t other) { return one < other ? one 
 /* -- the calls of a map, by the files that have them */
 
 extern const PyMethodDef question_methods[], edit_methods[], scan_methods[], list_methods[];
+extern PyMethodDef region_functions[];
 PyObject *ray(PyObject *module, PyObject *args);
 bool is_map(PyObject *it);
 #define FAST(name, text)                                                                           \

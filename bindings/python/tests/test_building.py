@@ -45,8 +45,10 @@ class Modules(InFolder):
         place = self.folder / "python"
         leave_out = shutil.ignore_patterns("*.so", "__pycache__", "tests*", "examples")
         shutil.copytree(HERE, place, ignore=leave_out)
-        (self.folder / "c").mkdir()
-        shutil.copy(octofix_compile.header(), self.folder / "c")
+        for it in octofix_compile.headers():
+            to = self.folder / it.relative_to(HERE.parent)
+            to.parent.mkdir(parents=True)
+            shutil.copy(it, to)
         self.compile = place / "octofix_compile.py"
 
     def test_one_that_is_not_there(self):

@@ -4,22 +4,23 @@ import os
 import re
 import threading
 import unittest
+from fractions import Fraction
 from unittest import mock
 
 import numpy as np
 from running import DATA, InFolder, save_map
 
-from octofix import Limits, Map, ray
+from octofix import Limits, Map, Refused, ray
 from octofix._program import parser
 from octofix.cli.interrupts import INTERRUPTS
 from octofix.io.asked import scans_of
 from octofix.io.lengths import nanometres
 from octofix.io.scans import Scan
 from octofix.mapping import crew, mapper
-from octofix.mapping.parallel import is_safe
 from octofix.mapping.regions import (
-    HIGHEST, LOWEST, PLACES, Cut, Parts, Region, Samples, cut, cut_off, parted, regions_in, sample,
+    CUT, HIGHEST, LOWEST, PLACES, SAMPLE, Cuts, Parts, Region, cut, cut_off, is_safe, sample,
 )  # fmt: skip
+from octofix.mapping.regions import joined as joined_samples
 
 CLOUDS = [f"{number:02}.npy" for number in range(9)]
 FULL = "(--max-groups allows more, a larger --res or a --range takes less)"
@@ -239,17 +240,33 @@ class Crew(unittest.TestCase):
         self.assertEqual(threads.take_finished(), [10] * 5)
 
 
+def is_near(scan, beam, region, edge=7):
+    """Whether a beam meets the box of a region that is a voxel larger on each side."""
+    enter, leave = Fraction(0), Fraction(1)
+    for at, way, low, high in zip(scan.origin, beam, region.low, region.high):
+        at, way = int(at), int(way)
+        low, high = (low - 1) * edge - at, (high + 2) * edge - at
+        if way == 0:
+            if low > 0 or high < 0:
+                return False
+            continue
+        one, other = sorted((Fraction(low, way), Fraction(high, way)))
+        enter, leave = max(enter, one), min(leave, other)
+    return enter <= leave
+
+
 class Regions(InFolder):
     def test_they_are_a_whole(self):
         """Whatever the beams are, also none, and in one voxel alone."""
         random = np.random.default_rng(1)
         for scale in (0, 1, 5, 40_000):
-            voxels = np.rint(random.normal(size=(40, PLACES, 3)) * scale).astype(int)
-            samples = Samples(voxels.clip(LOWEST, HIGHEST), random.integers(0, 9, 40))
+            voxels = np.rint(random.normal(size=(40, 3, PLACES)) * scale).astype(int)
+            samples = np.empty(40, SAMPLE)
+            samples["voxels"], samples["weight"] = voxels.clip(LOWEST, HIGHEST), range(40)
             for count in (1, 2, 3, 64):
-                found, parts = regions_in(cut(samples, count)), Parts()
+                found, parts = cut(samples, count).regions, Parts()
                 for number in {0, count // 2, count - 1}:
-                    one = regions_in(cut(samples, count, number))
+                    one = cut(samples, count, number).regions
                     self.assertEqual(one, found[number : number + 1])
                 self.assertEqual(len(found), count)
                 self.assertEqual({parts.add("", it) for it in found}, {None})
@@ -258,37 +275,38 @@ class Regions(InFolder):
     def test_voxels_at_the_ends(self):
         """No region is without voxels."""
         for end in (LOWEST, HIGHEST):
-            samples = Samples(np.full((1, PLACES, 3), end), np.array([1]))
-            self.assertTrue(all(it.size() > 0 for it in regions_in(cut(samples, 9))))
+            samples = np.array([(np.full((3, PLACES), end), 1)], SAMPLE)
+            self.assertTrue(all(it.size() > 0 for it in cut(samples, 9).regions))
 
     def test_no_beam_is_cut_where_others_are(self):
         """Beams to a wall on x: those to the left and those to the right have a region each."""
         points = nanometres([[10, 0.01 * it, 0] for it in range(-500, 500)])
-        found = regions_in(cut(sample(Scan("", nanometres([0, 0, 0]), points), 10**8, None), 2))
+        found = cut(sample(Scan("", nanometres([0, 0, 0]), points), 10**8, None), 2).regions
         self.assertEqual((found[0].low[0], found[1].high[0]), (LOWEST, HIGHEST))
         self.assertAlmostEqual(found[1].low[1], 0, delta=2)
 
     def test_they_have_about_as_much(self):
         """Beams to a spot on x, which have to be cut in any case, are halved."""
         points = nanometres([[10, 0, 0]] * 100)
-        found = regions_in(cut(sample(Scan("", nanometres([0, 0, 0]), points), 10**8, None), 2))
+        found = cut(sample(Scan("", nanometres([0, 0, 0]), points), 10**8, None), 2).regions
         self.assertAlmostEqual(found[1].low[0], 50, delta=5)
 
     def test_a_range(self):
         """No beam is longer than 3 m: it ends at 4 m, in the voxel 40."""
         scan = Scan("", nanometres([1, 0, 0]), nanometres([[90, 0, 0], [2, 0, 0]]))
         found = sample(scan, 100_000_000, 3)
-        self.assertEqual(found.voxels[..., 0].max(), 40)
-        self.assertEqual(set(found.weights.tolist()), {31, 21})
+        self.assertEqual(found["voxels"][:, 0].max(), 40)
+        self.assertEqual(set(found["weight"].tolist()), {31, 21})
 
     def test_beams_near(self):
         """A region has the beams that come as near to it as one voxel, here from 3 m on."""
         scan = Scan("", nanometres([0.5, 0, 0]), nanometres([[9, 0, 0], [2.5, 0, 0], [2.4, 0, 0]]))
         beside = Scan("", nanometres([0.5, 0, 0]), nanometres([[-9, 0, 0], [0, 9, 9], [0, 0, 0]]))
         region = Region((4, LOWEST, LOWEST), (HIGHEST,) * 3)
-        tree = Cut(0, 4, None, region)
+        # (cut at the voxel 4 on x; what lies before isn't asked for)
+        cuts = Cuts([region], np.array([(0, 4, 2), (-2, 0, 0), (-1, 0, 0)], CUT))
         for it, reach, wanted in ((scan, None, [0, 1]), (beside, None, []), (scan, 2, [])):
-            self.assertEqual([few.tolist() for few in parted(it, tree, 10**9, reach)], [wanted])
+            self.assertEqual([few.tolist() for few in cuts.near(it, 10**9, reach)], [wanted])
 
     def test_no_beam_is_missed(self):
         """Each beam comes to each region of which it meets a voxel, and few come to others."""
@@ -299,8 +317,8 @@ class Regions(InFolder):
             points = nanometres(random.normal(size=(60, 3)) * 4) // step * step
             points[:9, case % 3] = 0
             scan = Scan("", at, points)
-            tree = cut(sample(scan, 10**8, reach), 13)
-            regions, numbers = regions_in(tree), parted(scan, tree, 10**8, reach)
+            cuts = cut(sample(scan, 10**8, reach), 13)
+            regions, numbers = cuts.regions, cuts.near(scan, 10**8, reach)
             came = {(place, it) for place, few in enumerate(numbers) for it in few.tolist()}
             wanted = set()
             for number, beam in enumerate(cut_off(points, reach)):
@@ -310,6 +328,39 @@ class Regions(InFolder):
                         wanted.add((place, number))
             self.assertLessEqual(wanted, came)
             self.assertLess(len(came), 3 * len(wanted))
+
+    def test_each_beam_that_is_near(self):
+        """A beam comes to a region just where it meets the box that is a voxel larger on each side,
+        by fractions. Beams begin and end where voxels do, or a nanometre beside."""
+        random, edge = np.random.default_rng(4), 7
+        for _ in range(20):
+            corners = random.integers(-9, 9, (41, 3)) * edge + random.integers(-1, 2, (41, 3))
+            scan = Scan("", corners[0], corners[1:] - corners[0])
+            cuts = cut(sample(scan, edge, None), 6)
+            for region, numbers in zip(cuts.regions, cuts.near(scan, edge, None)):
+                wanted = [it for it, beam in enumerate(scan.points) if is_near(scan, beam, region)]
+                self.assertEqual(numbers.tolist(), wanted)
+
+    def test_a_scan_that_is_safe_is_done(self):
+        """Where it is said that no map refuses a scan none does, and most of those that none
+        refuses are safe."""
+        random, safe, done = np.random.default_rng(5), 0, 0
+        for _ in range(300):
+            scale = 10 ** random.uniform(-1, 3)
+            points = random.normal(size=(random.integers(0, 9), 3)) * scale
+            at = random.normal(size=3) * random.choice([1, 3000])
+            reach = random.choice([None, scale, scale / 9])
+            limits = Limits(1 << 20, int(10 ** random.uniform(1, 6)))
+            scan = Scan("", nanometres(at), nanometres(points))
+            is_said = is_safe(scan, 10**8, reach, limits)
+            with Map(0.1, **limits._asdict()) as world:
+                try:
+                    world.scan_nm(scan.points, scan.origin, reach and int(nanometres(reach)))
+                    done, safe = done + 1, safe + is_said
+                except Refused:
+                    self.assertFalse(is_said)
+        self.assertGreater(safe, 0.8 * done)
+        self.assertLess(done, 250)
 
     def test_scans_that_nobody_refuses(self):
         """Beams of 1 m at 0.1 m meet up to 11 voxels, and by the sum of their lengths 12."""
@@ -347,9 +398,9 @@ class Regions(InFolder):
                 for reach, lazy in zip((None, 1, 2, None, 0.5, 3), random.integers(0, 2, 6) > 0)
             ]
             places = [Scan("", nanometres(at), nanometres(it)) for it, at, _, _ in scans]
-            samples = Samples.joined([sample(it, 100_000_000, None) for it in places])
+            samples = joined_samples([sample(it, 100_000_000, None) for it in places])
             worlds = [Map(0.1) for _ in range(6)]
-            for world, region in zip(worlds, [Region(), *regions_in(cut(samples, 5))]):
+            for world, region in zip(worlds, [Region(), *cut(samples, 5).regions]):
                 world.limit(*region.corners(world.resolution_nm))
                 world.track()
                 for points, at, reach, lazy in scans:

@@ -6,18 +6,15 @@ from concurrent.futures import ThreadPoolExecutor
 from dataclasses import replace
 from functools import partial
 
-import numpy as np
-
 from octofix import Map, Refused
 from octofix.io.errors import Unusable
-from octofix.io.lengths import nanometres
 from octofix.io.readers import Readers
 
 from .crew import Crew
 from .gathering import MOST_POINTS, gathered
 from .mapper import FULL, ScanMapper
 from .maps import MOST_GROUPS
-from .regions import HIGHEST, LOWEST, Region, Samples, cut, parted, regions_in, sample
+from .regions import HIGHEST, Region, cut, is_safe, joined, sample
 
 # About how many scans tell where beams go.
 SAMPLED = 32
@@ -28,28 +25,15 @@ MOST_AHEAD = 1 << 26
 
 
 def regions_of(scans, count, edge, reach, only=None):
-    """So many regions, or one of them, cut where the beams of scans from all over the clouds go, as
-    a tree of cuts."""
+    """The Cuts of so many regions, or of one of them, by where the beams of scans from all over the
+    clouds go."""
     found = [sample(scan, edge, reach, weight) for weight, scan in scans.spread(SAMPLED)]
-    return cut(Samples.joined(found), count, only)
+    return cut(joined(found), count, only)
 
 
-def is_safe(scan, edge, reach, limits):
-    """Whether no map of these limits, but one that is full, can refuse a scan, as far as the box of
-    its beams and the sum of their lengths tell."""
-    beams = scan.points
-    if not 0 < len(beams) <= MOST_POINTS:
-        return not len(beams)
-    low, high = np.minimum(beams.min(axis=0), 0), np.maximum(beams.max(axis=0), 0)
-    if reach is not None:
-        far = nanometres(reach) + 1
-        low, high = np.maximum(low, -far), np.minimum(high, far)
-    low, high = (low + scan.origin) // edge - 1, (high + scan.origin) // edge + 1
-    # (each beam meets a voxel, and one more for each face between its ends, as far as they lie)
-    most = len(beams) * int((high - low).sum() + 1)
-    if most > limits.max_cells:
-        most = int((np.abs(beams) // edge + (beams != 0)).sum()) + len(beams)
-    return bool((low >= LOWEST).all() and (high <= HIGHEST).all()) and most <= limits.max_cells
+def needs_no_judge(scan, edge, reach, limits):
+    """Whether it is sure that a scan is done at once, but where a map is full."""
+    return len(scan.points) <= MOST_POINTS and is_safe(scan, edge, reach, limits)
 
 
 class RegionMapper(ScanMapper):
@@ -58,13 +42,12 @@ class RegionMapper(ScanMapper):
     def __init__(self, world, number, count, reach=None, script=None):
         """number: from 1."""
         super().__init__(world, reach, script)
-        self.number, self.count, self.region = number, count, Region()
+        self.number, self.count, self.cuts = number, count, None
 
     def begin(self, scans):
         edge = self.world.resolution_nm
-        tree = regions_of(scans, self.count, edge, self.reach, self.number - 1)
-        (self.region,) = regions_in(tree)
-        corners = self.region.corners(edge)
+        self.cuts = regions_of(scans, self.count, edge, self.reach, self.number - 1)
+        corners = self.cuts.regions[0].corners(edge)
         self.world.limit(*corners)
         if self.script:
             self.script.limit(*corners)
@@ -72,8 +55,8 @@ class RegionMapper(ScanMapper):
     def _add_at_once(self, scan):
         """Of a scan that nobody refuses the beams that come near to the region will do."""
         edge = self.world.resolution_nm
-        if not self.script and is_safe(scan, edge, self.reach, self.world.limits):
-            (which,) = parted(scan, self.region, edge, self.reach)
+        if not self.script and needs_no_judge(scan, edge, self.reach, self.world.limits):
+            (which,) = self.cuts.near(scan, edge, self.reach)
             scan = replace(scan, points=scan.points[which])
         return super()._add_at_once(scan)
 
@@ -90,7 +73,8 @@ class Judge(ScanMapper):
         """None for a scan that is done at once; else, for a script, what it hits and frees."""
         parts = self.parted
         self.leaves = None
-        if not is_safe(scan, self.world.resolution_nm, self.reach, self.world.limits):
+        edge = self.world.resolution_nm
+        if not needs_no_judge(scan, edge, self.reach, self.world.limits):
             self.has_script = has_script
             self.add(scan)
         return self.parted > parts, self.leaves
@@ -117,15 +101,15 @@ class ParallelMapper:
         self.scans = self.points = self.parted = 0
         with new_map() as world:
             self.edge = world.resolution_nm
-        self.tree, self.worlds = Region(), []
+        self.cuts, self.worlds = None, []
         self.own, self.crew, self.pool = threading.local(), None, None
         # The map of threads that are done, and who may take it.
         self.laid, self.laying = None, threading.Lock()
 
     def begin(self, scans):
         """Cuts the regions, by scans that are read for that alone."""
-        self.tree = regions_of(scans, self.count, self.edge, self.reach)
-        for region in regions_in(self.tree):
+        self.cuts = regions_of(scans, self.count, self.edge, self.reach)
+        for region in self.cuts.regions:
             world = self.new_map()
             world.limit(*region.corners(self.edge))
             self.worlds.append(world)
@@ -155,7 +139,7 @@ class ParallelMapper:
         if not hasattr(self.own, "judge"):
             self.own.judge = Judge(self.new_map(), self.reach)
         is_parted, leaves = self.own.judge.judged(scan, bool(self.script))
-        return scan, is_parted, leaves, parted(scan, self.tree, self.edge, self.reach)
+        return scan, is_parted, leaves, self.cuts.near(scan, self.edge, self.reach)
 
     def _take(self, read, future, scans):
         """Has a scan done that is prepared."""
