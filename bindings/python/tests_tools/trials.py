@@ -13,6 +13,7 @@ import shutil
 import signal
 import sys
 import time
+import warnings
 from dataclasses import dataclass, field
 from pathlib import Path
 
@@ -164,6 +165,8 @@ class run:
         status = 99
         try:
             signal.signal(signal.SIGINT, signal.SIG_DFL)
+            # (a file that is closed as it goes is no fault)
+            warnings.simplefilter("ignore", ResourceWarning)
             said = os.open(self.said, os.O_CREAT | os.O_TRUNC | os.O_WRONLY)
             os.dup2(said, 2)
             os.dup2(os.open("/dev/null", os.O_WRONLY), 1)
@@ -211,7 +214,7 @@ def judge(case, ended, *, may_lack=(), expected=("done", "ended")):
         raise WrongError(f"the status is {ended.status}")
     others = [it for it in ended.said.splitlines() if not it.startswith("octofix: ")]
     if others:
-        raise WrongError(f"it says {others[:9]}")
+        raise WrongError(f"it says {others[:3]}")
     names = {it for it in os.listdir() if not (killed and it.startswith(PART))}
     left = names - {*case.outputs} - {f"{it}.partial" for it in may_lack}
     if left:
@@ -299,7 +302,7 @@ def tiled(place, found, chance):
 def _expect_tiles(before, ended):
     others = [it for it in ended.said.splitlines() if not it.startswith("octofix: ")]
     if others:
-        raise WrongError(f"it says {others[:9]}")
+        raise WrongError(f"it says {others[:3]}")
     with tiles.Tiles("town") as town:
         if town.check():
             raise WrongError(f"the tiles aren't whole: {town.check()[0]}")

@@ -16,7 +16,7 @@ from __future__ import annotations
 import math
 import threading
 from bisect import bisect_left
-from dataclasses import dataclass
+from dataclasses import dataclass, field
 from functools import partial
 from typing import Any, Callable, NamedTuple, Protocol
 
@@ -238,12 +238,16 @@ class View:
 
 @dataclass(eq=False)
 class _Waiting:
-    """A cloud, and the greatest time of those that came after it."""
+    """A cloud, the greatest time of those that came after it, how many of its points are in its scan
+    and are cut, and what the scan answered, once it is done."""
 
     time: float
     frame: str
     points: npt.NDArray[Any]
     later: float
+    used: int = 0
+    cut: int = 0
+    answers: list[Any] = field(default_factory=list)
 
 
 class Mapper:
@@ -335,6 +339,7 @@ class Mapper:
 
     def tally(self) -> Tally:
         with self._lock:
+            self._count_done()
             return self._tally._replace(waiting=len(self._waiting))
 
     def view(self) -> View:
@@ -378,6 +383,7 @@ class Mapper:
     # -- what is called while the lock is held
 
     def _work(self) -> None:
+        self._count_done()
         for cloud in list(self._waiting):
             try:
                 found = self.poses.pose_of(cloud.time, cloud.frame)
@@ -386,43 +392,49 @@ class Mapper:
                 continue
             if found is not None:
                 self._map(cloud, found)
+                self._count_done()
             elif cloud.later - cloud.time > self._patience:
                 self._give_up(cloud, f"no pose for {cloud.time} came in time")
         while len(self._waiting) > self._most_waiting:
             self._give_up(self._waiting[0], "too many clouds wait for poses")
 
     def _give_up(self, cloud: _Waiting, why: str) -> None:
-        self._waiting.remove(cloud)
-        self._tally = self._tally._replace(without_pose=self._tally.without_pose + 1, why=why)
+        self._drop(cloud, without_pose=self._tally.without_pose + 1, why=why)
+
+    def _drop(self, cloud: _Waiting, **tally: Any) -> None:
+        """Has a cloud wait no more, and says so in the tally."""
+        others = [it for it in self._waiting if it is not cloud]
+        counted = self._tally._replace(**tally)
+        self._waiting, self._tally = others, counted
 
     def _map(self, cloud: _Waiting, at: Pose) -> None:
         """Maps a cloud that waits. One that is interrupted before it is in the map waits on."""
         try:
             points = self._measured(cloud.points, at)
-            cut = self._cut(points)
-            self.world.scan(points, at.at, at.turn, self._range)
+            cloud.used, cloud.cut = len(points), self._cut(points)
+            words = points, at.at, at.turn, self._range
+            # (a Ctrl-C comes before or after it, and not between a scan and its answer)
+            cloud.answers.extend(map(self.world.scan, *([it] for it in words)))
         except (Refused, BadPoints, Unusable) as why:
-            self._waiting.remove(cloud)
-            self._tally = self._tally._replace(refused=self._tally.refused + 1, why=str(why))
+            self._drop(cloud, refused=self._tally.refused + 1, why=str(why))
         except KeyboardInterrupt as why:
             if isinstance(why, Interrupted) and why.done:
-                self._count(cloud, points, cut)
+                cloud.answers.append(why)
             raise
         except BaseException:
-            self._waiting.remove(cloud)
+            self._drop(cloud)
             raise
-        else:
-            self._count(cloud, points, cut)
 
-    def _count(self, cloud: _Waiting, points: npt.NDArray[Any], cut: int) -> None:
-        """Counts a cloud of which these points are in the map."""
-        self._waiting.remove(cloud)
-        self._tally = self._tally._replace(
-            mapped=self._tally.mapped + 1,
-            points=self._tally.points + len(points),
-            left_out=self._tally.left_out + len(cloud.points) - len(points),
-            cut=self._tally.cut + cut,
-        )
+    def _count_done(self) -> None:
+        """Counts the clouds that are in the map by now, also where a Ctrl-C came before that."""
+        for cloud in [it for it in self._waiting if it.answers]:
+            self._drop(
+                cloud,
+                mapped=self._tally.mapped + 1,
+                points=self._tally.points + cloud.used,
+                left_out=self._tally.left_out + len(cloud.points) - cloud.used,
+                cut=self._tally.cut + cloud.cut,
+            )
 
     def _cut(self, points: npt.NDArray[Any]) -> int:
         """How many beams will be cut; Unusable where the unit seems to be another one."""
