@@ -77,6 +77,15 @@ def parse(*words):
 command._parsed = parse
 run()
 """
+# Another library that does so.
+IMPORTING = """
+import os, signal, sys
+try:
+    os.kill(os.getpid(), signal.SIGINT)
+except BaseException:
+    print("Error in generated code", file=sys.stderr)
+    raise ImportError("it is broken")
+"""
 # A numpy during whose import signals come, and what they raise is lost.
 INTERRUPTING = """
 import os, signal, sys
@@ -245,6 +254,16 @@ class Start(Processes):
         self.before.add("argparse.py")
         for words in (["-m", "octofix"], ["-c", "from octofix.__main__ import run; run()"]):
             self.ends(self.start(*words, "info", "a.bt"), "", BY_CTRL_C)
+
+    def test_while_a_library_is_imported(self):
+        """Which turns what is raised into a fault of its own."""
+        os.mkdir("scipy")
+        self.before.add("scipy")
+        for name, content in (("__init__", ""), ("spatial", IMPORTING)):
+            with open(f"scipy/{name}.py", "w") as file:
+                file.write(content)
+        run = self.start("-m", "octofix", "compare", "wanted.bt", "wanted.bt")
+        self.ends(run, "octofix: stopped by Ctrl-C\n", BY_CTRL_C)
 
     def test_before_the_command_is_found(self):
         """`python3 -m octofix` is quiet as soon as Python comes to the package; who imports it

@@ -1,8 +1,12 @@
 """Libraries that are used where they are there."""
 
+import contextlib
 import importlib
+import signal
 
 from .errors import MissingLibrary
+
+_SIGNALS = {signal.SIGINT, signal.SIGTERM, signal.SIGHUP}
 
 # The packages that have them.
 PACKAGES = {
@@ -42,8 +46,19 @@ def needed(module, purpose):
 def _loaded(module):
     """The module, and why there is none, as where it was built for another numpy."""
     try:
-        return importlib.import_module(module), None
+        with _unheard():
+            return importlib.import_module(module), None
     except MemoryError:
         raise
     except Exception as why:
         return None, why
+
+
+@contextlib.contextmanager
+def _unheard():
+    """Signals wait: what they raise a library may turn into faults of its own as it is imported."""
+    before = signal.pthread_sigmask(signal.SIG_BLOCK, _SIGNALS)
+    try:
+        yield
+    finally:
+        signal.pthread_sigmask(signal.SIG_SETMASK, before)
