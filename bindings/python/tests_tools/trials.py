@@ -153,21 +153,23 @@ class run:
 
     def __init__(self, words, limit=None):
         ready, begun = os.pipe()
-        self.said, self.process = os.path.abspath(f"../said-{id(self)}"), os.fork()
+        # (no file, since these have bounds)
+        self.said, said = os.pipe()
+        self.process = os.fork()
         if self.process == 0:
-            self._work([str(it) for it in words], begun, limit)
+            self._work([str(it) for it in words], begun, said, limit)
         os.close(begun)
+        os.close(said)
         os.read(ready, 1)
         os.close(ready)
 
-    def _work(self, words, begun, limit):
+    def _work(self, words, begun, said, limit):
         """What the new process does."""
         status = 99
         try:
             signal.signal(signal.SIGINT, signal.SIG_DFL)
             # (a file that is closed as it goes is no fault)
             warnings.simplefilter("ignore", ResourceWarning)
-            said = os.open(self.said, os.O_CREAT | os.O_TRUNC | os.O_WRONLY)
             os.dup2(said, 2)
             os.dup2(os.open("/dev/null", os.O_WRONLY), 1)
             sys.stderr, sys.stdout = open(2, "w", buffering=1), open(1, "w")
@@ -200,10 +202,8 @@ class run:
                 os.waitpid(self.process, 0)
                 raise WrongError(f"it takes more than {LONGEST} s")
             time.sleep(0.001)
-        said = Path(self.said)
-        text = said.read_text(errors="replace")
-        said.unlink()
-        return Ended(os.waitstatus_to_exitcode(status), text)
+        with open(self.said, errors="replace") as said:
+            return Ended(os.waitstatus_to_exitcode(status), said.read())
 
 
 def judge(case, ended, *, may_lack=(), expected=("done", "ended")):
