@@ -12,17 +12,20 @@
 #include <ctime>
 #include <map>
 #include <mutex>
-#include <pthread.h>
 #include <random>
 #include <string>
 
 namespace {
 
+struct merge {
+    const void *map, *other;
+    double seconds;
+};
+
 std::mutex lock;
 std::map<std::thread::id, double> scanning; // seconds of each thread
-clockid_t main_clock;                       // of the thread that shares the scans out
-double sharing_began = 0;                   // when it began
-std::map<const void *, double> ready;       // after how many seconds a map can be where it is
+std::map<const void *, double> mapping;     // of each map
+std::vector<merge> merges;                  // in their order
 
 double seconds_of(clockid_t clock) {
     timespec now{};
@@ -30,8 +33,7 @@ double seconds_of(clockid_t clock) {
     return static_cast<double>(now.tv_sec) + 1e-9 * static_cast<double>(now.tv_nsec);
 }
 double seconds_of_thread() { return seconds_of(CLOCK_THREAD_CPUTIME_ID); }
-/// What the thread that shares out has taken until now.
-double sharing() { return seconds_of(main_clock) - sharing_began; }
+double seconds_of_all_threads() { return seconds_of(CLOCK_PROCESS_CPUTIME_ID); }
 
 /// What a map is known by, also when its handle has been moved.
 const void *key_of(const octofix_map *map) {
@@ -56,7 +58,7 @@ extern "C" std::uint32_t __wrap_octofix_scan(octofix_map *map, const octofix_pos
     const double spent = seconds_of_thread() - began;
     const std::lock_guard<std::mutex> held(lock);
     scanning[std::this_thread::get_id()] += spent;
-    ready[key_of(map)] += spent;
+    mapping[key_of(map)] += spent;
     return code;
 }
 
@@ -68,8 +70,7 @@ extern "C" std::uint32_t __wrap_octofix_merge(octofix_map *map, octofix_map *oth
     const std::uint32_t code = __real_octofix_merge(map, other, rule, details);
     const double spent = seconds_of_thread() - began;
     const std::lock_guard<std::mutex> held(lock);
-    const double both = std::max(ready[key_of(map)], ready[key_of(other)]);
-    ready[key_of(map)] = std::max(both, sharing()) + spent;
+    merges.push_back({key_of(map), key_of(other), spent});
     return code;
 }
 
@@ -138,71 +139,92 @@ std::vector<look> street() {
 
 constexpr octofix::limits most = {std::uint64_t{1} << 26, std::uint64_t{1} << 27};
 
-/// The seconds of the longest of the threads that have a map of a region.
-double longest_of_threads() {
-    double longest = 0;
-    for (const auto &[thread, seconds] : scanning)
-        if (thread != std::this_thread::get_id()) longest = std::max(longest, seconds);
-    return longest;
-}
-
-/// After how many seconds the map of all regions can be ready: scans, and the merges behind them
-/// that wait for each other.
-double ready_at_last() {
-    double last = sharing();
-    for (const auto &[map, seconds] : ready) last = std::max(last, seconds);
-    return last;
-}
-
-/// What maps of one scene took in each run, in seconds, by the number of threads; by 1 alone.
-struct times {
-    std::map<unsigned, std::vector<double>> longest, sharing, last;
+/// What a map took, in seconds. One processor alone: all of it in `mapped`.
+struct spans {
+    double begun = 0;   ///< of the thread that adds the scans and cuts the regions
+    double shared = 0;  ///< of all threads, but for scans and merges
+    double longest = 0; ///< scans of the region with most of them
+    double mapped = 0;  ///< until all scans are done, if as many processors share what there is
+    double merged = 0;  ///< and the merges behind them, which wait for each other
 };
+
+/// Reckons how long so many processors take. (What isn't done for a region is done by the threads
+/// that are ahead.)
+spans reckoned(unsigned threads, double begun, double all) {
+    spans found;
+    double scans = 0, merging = 0;
+    for (const auto &[thread, seconds] : scanning) {
+        if (thread == std::this_thread::get_id()) continue;
+        scans += seconds;
+        found.longest = std::max(found.longest, seconds);
+    }
+    for (const merge &it : merges) merging += it.seconds;
+    found.begun = begun;
+    found.shared = all - begun - scans - merging;
+    const double even = (scans + found.shared) / threads;
+    found.mapped = begun + std::max(found.longest, even);
+    auto ready = mapping;
+    for (auto &[map, seconds] : ready) seconds = begun + std::max(seconds, even);
+    for (const merge &it : merges) {
+        ready[it.map] = std::max(ready[it.map], ready[it.other]) + it.seconds;
+        found.merged = std::max(found.merged, ready[it.map]);
+    }
+    return found;
+}
+
+/// The spans of maps of one scene in each run, by the number of threads; by 1 alone.
+using times = std::map<unsigned, std::vector<spans>>;
 
 /// Makes the map by one thread, and then by each number of threads; whether all are the same.
 bool run(const std::vector<look> &all, const std::vector<unsigned> &threads, times &taken) {
     octofix::map world(0.05, octofix::default_odds, most);
     scanning.clear();
     for (const look &it : all) world.scan(it.from, it.points, it.how);
-    taken.last[1].push_back(scanning[std::this_thread::get_id()]);
+    spans alone;
+    alone.mapped = alone.merged = scanning[std::this_thread::get_id()];
+    taken[1].push_back(alone);
     const octofix::bytes wanted = world.snapshot();
     bool is_same = true;
     for (const unsigned number : threads) {
-        scanning.clear();
-        ready.clear();
-        sharing_began = seconds_of_thread();
+        scanning.clear(), mapping.clear(), merges.clear();
+        const double began = seconds_of_all_threads(), thread_began = seconds_of_thread();
         octofix::mapper mapper(0.05, octofix::default_odds, most, number);
         for (const look &it : all) mapper.add(it.from, it.points, it.how);
         const octofix::map came = mapper.finish();
-        taken.sharing[number].push_back(sharing());
-        taken.longest[number].push_back(longest_of_threads());
-        taken.last[number].push_back(ready_at_last());
+        taken[number].push_back(reckoned(number, seconds_of_thread() - thread_began,
+                                         seconds_of_all_threads() - began));
         is_same &= came.snapshot() == wanted;
     }
     return is_same;
 }
 
-double median(std::vector<double> all) {
-    std::sort(all.begin(), all.end());
-    return all[all.size() / 2];
+double median(const std::vector<spans> &all, double spans::*which) {
+    std::vector<double> found;
+    for (const spans &it : all) found.push_back(it.*which);
+    std::sort(found.begin(), found.end());
+    return found[found.size() / 2];
 }
 
 /// Whether so many threads are as fast as they should be.
-bool is_fast(const char *name, times &taken, unsigned threads) {
-    const double alone = median(taken.last[1]), last = median(taken.last[threads]);
-    const double least = threads >= 8 ? 4 : threads >= 4 ? 2.8 : threads >= 2 ? 1.5 : 0;
-    std::printf("%s, one map %.2f s, %u threads %.2f s: the longest %.2f s, the one that shares out "
-                "%.2f s; %.2f times as fast (at least %.1f)\n",
-                name, alone, threads, last, median(taken.longest[threads]),
-                median(taken.sharing[threads]), alone / last, least);
-    return alone / last >= least;
+bool is_fast(const char *name, const times &taken, unsigned threads) {
+    const std::vector<spans> &all = taken.at(threads);
+    const double alone = median(taken.at(1), &spans::mapped);
+    const double mapped = alone / median(all, &spans::mapped);
+    const double merged = alone / median(all, &spans::merged);
+    const double least = threads >= 16 ? 10 : threads >= 8 ? 6 : threads >= 4 ? 3 : 1.5;
+    const double least_merged = threads >= 8 ? 4 : threads >= 4 ? 2.8 : 1.5;
+    std::printf("%s, one map %.2f s, %u threads: begun in %.2f s, shared out in %.2f s, scans of "
+                "the longest %.2f s; mapped %.1f times as fast (at least %.1f), merged %.1f "
+                "(%.1f)\n",
+                name, alone, threads, median(all, &spans::begun), median(all, &spans::shared),
+                median(all, &spans::longest), mapped, least, merged, least_merged);
+    return mapped >= least && merged >= least_merged;
 }
 
 } // namespace
 
 int main(int count, char **words) {
     if (count < 3) return 2;
-    pthread_getcpuclockid(pthread_self(), &main_clock);
     std::vector<unsigned> threads;
     for (int i = 2; i < count; ++i) threads.push_back(static_cast<unsigned>(std::atoi(words[i])));
     bool is_right = true;

@@ -113,12 +113,17 @@ static inline bool octofix_is_safe(octofix_point origin, bool is_turned,
 
 /* -- where beams go */
 
-/* A beam at places from its beginning to its end: the voxels there, on each axis, and how many
- * voxels it stands for. */
+/* A beam at places from its beginning to its end: the voxels there, on each axis, what it costs to
+ * change one in the map, shared by the beams that meet it, and how many voxels it stands for. */
 typedef struct {
-    int16_t voxels[3][OCTOFIX_PLACES];
+    int16_t voxels[3][OCTOFIX_PLACES], changes[OCTOFIX_PLACES];
     uint64_t weight;
 } octofix_sample;
+
+/* What is done for a voxel that a beam meets where all of the beam lies in a region, where a part
+ * of it does, once for such a part, and for a voxel that is changed in the map. (As has been
+ * measured, of the last in time, since the memory of a map is waited for.) */
+enum { OCTOFIX_MET = 16, OCTOFIX_MET_IN_PART = 19, OCTOFIX_PARTED = 26, OCTOFIX_CHANGED = 100 };
 
 /* The number of the beam that is looked at as the one of this number. (Steps of the golden ratio
  * keep no time with the rings of a lidar.) */
@@ -126,25 +131,56 @@ static inline size_t octofix_picked(size_t number, size_t count) {
     return number * ((size_t)(0.618 * (double)count) | 1) % count;
 }
 
-/* The sample of one of so many beams that are looked at, which stand for so many. */
-static inline octofix_sample octofix_sample_of(octofix_point origin, octofix_point beam,
-                                               int64_t edge, int64_t range, uint64_t looked_at,
-                                               uint64_t stand_for) {
-    beam = octofix_cut_off(beam, range);
-    const int64_t from[3] = {origin.x, origin.y, origin.z}, way[3] = {beam.x, beam.y, beam.z};
-    int64_t walked = 0;
-    octofix_sample made;
-    for (int axis = 0; axis < 3; axis++) {
-        walked += way[axis] < 0 ? -way[axis] : way[axis];
-        for (int place = 0; place < OCTOFIX_PLACES; place++) {
-            const int64_t far = octofix_floor(way[axis] * place, OCTOFIX_PLACES - 1);
-            made.voxels[axis][place] = octofix_voxel(octofix_floor(from[axis] + far, edge));
-        }
+/* The share of all ways that beams take, as seen on a cube around the sensor of 96 squares. */
+static inline double octofix_share_of_ways(const octofix_point *beams, size_t count) {
+    bool is_seen[3][2][4][4] = {{{{false}}}};
+    int seen = 0;
+    for (size_t i = 0; i < count; i++) {
+        const double way[3] = {(double)beams[i].x, (double)beams[i].y, (double)beams[i].z};
+        int axis = fabs(way[1]) > fabs(way[0]);
+        if (fabs(way[2]) > fabs(way[axis])) axis = 2;
+        if (way[axis] == 0) continue;
+        const double far = fabs(way[axis]) * 1.0001;
+        const int row = (int)(2 * (1 + way[(axis + 1) % 3] / far));
+        const int column = (int)(2 * (1 + way[(axis + 2) % 3] / far));
+        bool *it = &is_seen[axis][way[axis] > 0][row][column];
+        seen += !*it;
+        *it = true;
     }
-    /* (no map has more) */
-    const int64_t most = 3 * (int64_t)OCTOFIX_VOXELS, voxels = walked / edge + 1;
-    made.weight = (uint64_t)(voxels < most ? voxels : most) * stand_for / looked_at;
-    return made;
+    return (seen ? seen : 1) / 96.0;
+}
+
+/* What a change costs a beam so far from the sensor, where so many meet a voxel at a nanometre. */
+static inline int16_t octofix_changes_at(double far, double meet) {
+    return (int16_t)((double)OCTOFIX_CHANGED * far * far / (far * far + meet));
+}
+
+/* Puts the samples of a scan that stands for so many into a row: of beams that are looked at, in
+ * place of all. */
+static inline void octofix_add_samples(octofix_sample *to, octofix_point origin,
+                                       const octofix_point *looked_at, size_t number, size_t count,
+                                       int64_t edge, int64_t range, uint64_t stands_for) {
+    const int64_t from[3] = {origin.x, origin.y, origin.z};
+    /* (a voxel is seen from each side as 1.5 of its face, and a ball is 12.57 wide) */
+    const double ways = 12.57 * octofix_share_of_ways(looked_at, number);
+    const double meet = 1.5 * (double)count * (double)edge * (double)edge / ways;
+    for (size_t i = 0; i < number; i++, to++) {
+        const octofix_point beam = octofix_cut_off(looked_at[i], range);
+        const int64_t way[3] = {beam.x, beam.y, beam.z};
+        for (int place = 0; place < OCTOFIX_PLACES; place++) {
+            for (int axis = 0; axis < 3; axis++) {
+                const int64_t far = octofix_floor(way[axis] * place, OCTOFIX_PLACES - 1);
+                to->voxels[axis][place] = octofix_voxel(octofix_floor(from[axis] + far, edge));
+            }
+            const double far = octofix_length(beam) * place / (OCTOFIX_PLACES - 1);
+            to->changes[place] = octofix_changes_at(far, meet);
+        }
+        /* (no map has more) */
+        const int64_t most = 3 * (int64_t)OCTOFIX_VOXELS;
+        const double voxels = octofix_axes(beam) / (double)edge + 1;
+        to->weight = (uint64_t)(voxels < (double)most ? voxels : (double)most) *
+                     (stands_for * count) / number;
+    }
 }
 
 /* -- cuts */
@@ -152,10 +188,10 @@ static inline octofix_sample octofix_sample_of(octofix_point origin, octofix_poi
 /* A beam in a region: the places of it that are there, a bit each, how many, and the voxels at
  * them; those of the others are behind each cut. */
 typedef struct {
-    int16_t voxels[3][OCTOFIX_PLACES];
+    int16_t voxels[3][OCTOFIX_PLACES], changes[OCTOFIX_PLACES];
     uint64_t weight;
     uint32_t bits;
-    int32_t places;
+    int32_t places, changes_in_all;
 } octofix_inside;
 
 /* What it takes to cut, and what comes out. */
@@ -176,10 +212,11 @@ typedef struct {
     int32_t at;
 } octofix_place_to_cut;
 
-/* What is done for a beam with so many places in a region. (As instructions have been counted.) */
+/* What is done for a beam with so many places in a region, beside changes. */
 static inline uint64_t octofix_work(int32_t places) {
-    if (places == OCTOFIX_PLACES) return 16 * OCTOFIX_PLACES;
-    return places == 0 ? 0 : 19 * (uint64_t)places + 26;
+    const uint64_t count = (uint64_t)places;
+    if (places == OCTOFIX_PLACES) return OCTOFIX_MET * count;
+    return places == 0 ? 0 : OCTOFIX_MET_IN_PART * count + OCTOFIX_PARTED;
 }
 
 /* Looks at the beams that have a place in a region. */
@@ -188,7 +225,7 @@ static inline void octofix_look_inside(octofix_cutting *it, const octofix_region
     for (size_t i = 0; i < it->count; i++) {
         const octofix_sample *beam = &it->samples[i];
         octofix_inside *to = &it->inside[it->inside_now];
-        to->weight = beam->weight, to->bits = 0, to->places = 0;
+        to->weight = beam->weight, to->bits = 0, to->places = to->changes_in_all = 0;
         for (int place = 0; place < OCTOFIX_PLACES; place++) {
             bool is_in = true;
             for (int axis = 0; axis < 3; axis++)
@@ -196,6 +233,8 @@ static inline void octofix_look_inside(octofix_cutting *it, const octofix_region
                          beam->voxels[axis][place] <= within->high[axis];
             to->bits |= (uint32_t)is_in << place;
             to->places += is_in;
+            to->changes[place] = is_in ? beam->changes[place] : 0;
+            to->changes_in_all += to->changes[place];
             for (int axis = 0; axis < 3; axis++)
                 to->voxels[axis][place] = is_in ? beam->voxels[axis][place] : INT16_MAX;
         }
@@ -209,25 +248,31 @@ static inline double octofix_most_work(const octofix_cutting *it, octofix_place_
     uint64_t ones = 0, others = 0;
     for (size_t i = 0; i < it->inside_now; i++) {
         const octofix_inside *beam = &it->inside[i];
-        int16_t before = 0;
-        for (int place = 0; place < OCTOFIX_PLACES; place++)
-            before = (int16_t)(before + (beam->voxels[cut.axis][place] < cut.at));
-        ones += octofix_work(before) * beam->weight;
-        others += octofix_work(beam->places - before) * beam->weight;
+        int16_t before = 0, changes = 0;
+        for (int place = 0; place < OCTOFIX_PLACES; place++) {
+            const int is_before = beam->voxels[cut.axis][place] < cut.at;
+            before = (int16_t)(before + is_before);
+            changes = (int16_t)(changes + (is_before ? beam->changes[place] : 0));
+        }
+        const uint64_t behind = (uint64_t)(beam->changes_in_all - changes);
+        ones += (octofix_work(before) + (uint64_t)changes) * beam->weight;
+        others += (octofix_work(beam->places - before) + behind) * beam->weight;
     }
     const double first = (double)ones * (double)(count - few);
     const double second = (double)others * (double)few;
     return first > second ? first : second;
 }
 
-/* Sums up what is walked through on an axis of a region, up to each voxel; all of it. */
+/* Sums up what is to be done on an axis of a region, up to each voxel; all of it. */
 static inline double octofix_sum_up(octofix_cutting *it, const octofix_region *within, int axis) {
     const int32_t low = within->low[axis], edge = within->high[axis] - low;
     for (int32_t i = 0; i <= edge; i++) it->sums[i] = 0;
     for (size_t i = 0; i < it->inside_now; i++)
         for (int place = 0; place < OCTOFIX_PLACES; place++)
             if (it->inside[i].bits >> place & 1)
-                it->sums[it->inside[i].voxels[axis][place] - low] += (double)it->inside[i].weight;
+                it->sums[it->inside[i].voxels[axis][place] - low] +=
+                    (double)(OCTOFIX_MET + it->inside[i].changes[place]) *
+                    (double)it->inside[i].weight;
     for (int32_t i = 1; i <= edge; i++) it->sums[i] += it->sums[i - 1];
     return it->sums[edge];
 }
@@ -245,7 +290,7 @@ static inline int32_t octofix_first_sum(const double *sums, int32_t last, double
     return low;
 }
 
-/* Tries to cut on an axis, around where this share of what is walked through ends. */
+/* Tries to cut on an axis, around where this share of what is to be done ends. */
 static inline void octofix_try_axis(octofix_cutting *it, const octofix_region *within, int axis,
                                     uint64_t few, uint64_t count, double *least,
                                     octofix_place_to_cut *best) {

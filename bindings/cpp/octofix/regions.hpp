@@ -67,9 +67,9 @@ inline void add_samples(std::vector<octofix_sample> &all, const sighting &seen, 
         few.points.push_back(seen.points[octofix_picked(i, count)]);
     few = upright(std::move(few));
     if (!is_upright(few)) return;
-    for (const point &it : few.points)
-        all.push_back(octofix_sample_of(few.sensor.at, it, edge, range_of(few.how.range), taken,
-                                        count));
+    all.resize(all.size() + taken);
+    octofix_add_samples(all.data() + all.size() - taken, few.sensor.at, few.points.data(), taken,
+                        count, edge, range_of(few.how.range), 1);
 }
 
 /// Regions that are the whole together, and the tree of cuts between them.

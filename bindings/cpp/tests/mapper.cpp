@@ -313,7 +313,7 @@ void try_refused_requests() {
     long number = 0;
     // (of the first twenty each, and then less and less often)
     while (try_with_refused_request(all, one.snapshot(), number)) number += 1 + number / 20;
-    EXPECT(number > 50);
+    EXPECT(number > 30);
 }
 
 void try_ends() {

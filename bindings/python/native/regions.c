@@ -76,16 +76,17 @@ static PyObject *sample(PyObject *Py_UNUSED(module), PyObject *args) {
                           &room))
         return NULL;
     const size_t taken = (size_t)room.len / sizeof(octofix_sample);
-    int failed = open_scan(&it);
-    if (failed == 0) {
-        octofix_sample *to = room.buf;
-        for (size_t i = 0; i < taken && it.count; i++)
-            to[i] = octofix_sample_of(it.from, it.at[octofix_picked(i, it.count)], edge, range,
-                                      taken, weight * it.count);
-        close_scan(&it);
+    const int failed = open_scan(&it);
+    octofix_point *picked = failed ? NULL : malloc((taken + 1) * sizeof *picked);
+    if (picked) {
+        for (size_t i = 0; i < taken; i++) picked[i] = it.at[octofix_picked(i, it.count)];
+        octofix_add_samples(room.buf, it.from, picked, taken, it.count, edge, range, weight);
+        free(picked);
     }
+    if (!failed) close_scan(&it);
     PyBuffer_Release(&room);
     if (failed) return NULL;
+    if (!picked) return PyErr_NoMemory();
     Py_RETURN_NONE;
 }
 

@@ -261,7 +261,7 @@ class Regions(InFolder):
         random = np.random.default_rng(1)
         for scale in (0, 1, 5, 40_000):
             voxels = np.rint(random.normal(size=(40, 3, PLACES)) * scale).astype(int)
-            samples = np.empty(40, SAMPLE)
+            samples = np.zeros(40, SAMPLE)
             samples["voxels"], samples["weight"] = voxels.clip(LOWEST, HIGHEST), range(40)
             for count in (1, 2, 3, 64):
                 found, parts = cut(samples, count).regions, Parts()
@@ -275,7 +275,7 @@ class Regions(InFolder):
     def test_voxels_at_the_ends(self):
         """No region is without voxels."""
         for end in (LOWEST, HIGHEST):
-            samples = np.array([(np.full((3, PLACES), end), 1)], SAMPLE)
+            samples = np.array([(np.full((3, PLACES), end), 1, 1)], SAMPLE)
             self.assertTrue(all(it.size() > 0 for it in cut(samples, 9).regions))
 
     def test_no_beam_is_cut_where_others_are(self):
@@ -286,10 +286,24 @@ class Regions(InFolder):
         self.assertAlmostEqual(found[1].low[1], 0, delta=2)
 
     def test_they_have_about_as_much(self):
-        """Beams to a spot on x, which have to be cut in any case, are halved."""
-        points = nanometres([[10, 0, 0]] * 100)
+        """A beam along x, which has to be cut in any case, is halved."""
+        points = nanometres([[10, 0, 0]])
         found = cut(sample(Scan("", nanometres([0, 0, 0]), points), 10**8, None), 2).regions
         self.assertAlmostEqual(found[1].low[0], 50, delta=5)
+
+    def test_they_change_about_as_much(self):
+        """Near the sensor, where many beams meet a voxel, it is changed once: a region there isn't
+        done long before the others."""
+        ways = np.random.default_rng(6).normal(size=(20_000, 3))
+        ways *= 10 / np.linalg.norm(ways, axis=1)[:, None]
+        scan, changed = Scan("", nanometres([0.02, 0.03, 0.04]), nanometres(ways)), []
+        cuts = cut(sample(scan, 10**8, None), 16)
+        for region, numbers in zip(cuts.regions, cuts.near(scan, 10**8, None)):
+            with Map(0.1) as world:
+                world.limit(*region.corners(10**8))
+                changed.append(sum(world.scan_nm(scan.points[numbers], scan.origin)))
+        self.assertGreater(min(changed), 0.3 * np.mean(changed))
+        self.assertLess(max(changed), 2 * np.mean(changed))
 
     def test_a_range(self):
         """No beam is longer than 3 m: it ends at 4 m, in the voxel 40."""

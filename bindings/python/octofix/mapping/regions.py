@@ -15,7 +15,9 @@ LOWEST, HIGHEST = -(1 << 15), (1 << 15) - 1
 # How many beams of a scan are looked at, how many of all scans, and at how many places each.
 BEAMS, MOST_BEAMS, PLACES = 512, 1 << 11, 16
 # What C has of them.
-SAMPLE = np.dtype([("voxels", np.int16, (3, PLACES)), ("weight", np.uint64)])
+SAMPLE = np.dtype(
+    [("voxels", np.int16, (3, PLACES)), ("changes", np.int16, PLACES), ("weight", np.uint64)]
+)
 CUT = np.dtype([("axis", np.int32), ("at", np.int32), ("after", np.int32)])
 CORNERS = np.dtype([("low", np.int32, 3), ("high", np.int32, 3)])
 
