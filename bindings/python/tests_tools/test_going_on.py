@@ -61,7 +61,8 @@ class GoingOn(InFolder):
         self.refused("--res is needed, or --from with a map that has one", "map", "a.xyz", "-o",
                      "2.bt", status=2)  # fmt: skip
         for words in (["--jobs", 2], ["--region", "1/2"], ["--script", "2.txt"]):
-            said = f"--from and {words[0]} exclude each other"
+            begin = "a script begins" if words[0] == "--script" else "maps of regions begin"
+            said = f"--from and {words[0]} exclude each other: {begin} with nothing"
             self.refused(said, "map", "--from", "1.snap", *words, "a.xyz", "-o", "2.bt", status=2)
 
     def test_a_map_that_has_no_room(self):

@@ -173,7 +173,8 @@ def _expect_start(options):
         raise Misused("--res is needed, or --from with a map that has one")
     lone = {"--jobs": options.jobs != 1, "--region": options.region, "--script": options.script}
     for word in [it for it, is_there in lone.items() if is_there and options.start is not None]:
-        raise Misused(f"--from and {word} exclude each other")
+        begin = "a script begins" if word == "--script" else "maps of regions begin"
+        raise Misused(f"--from and {word} exclude each other: {begin} with nothing")
 
 
 def _map_of(options):
