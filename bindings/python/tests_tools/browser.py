@@ -25,6 +25,7 @@ WORDS = (
 )  # fmt: skip
 PATIENCE = 120  # seconds
 DOMAINS = "Page", "Runtime", "Log", "DOM", "Network"
+GROUP, USER_TIME, SYSTEM_TIME = 2, 11, 12  # fields of /proc/ID/stat, from the one after the name
 
 
 def missing():
@@ -79,6 +80,16 @@ class Pipe:
             self._left += part
         message, _, self._left = self._left.partition(b"\0")
         return json.loads(message)
+
+    def processor_time(self):
+        found = 0
+        for it in Path("/proc").glob("[0-9]*/stat"):
+            # (some end meanwhile)
+            with contextlib.suppress(OSError):
+                fields = it.read_text().rpartition(")")[2].split()
+                if int(fields[GROUP]) == self._pid:
+                    found += int(fields[USER_TIME]) + int(fields[SYSTEM_TIME])
+        return found / os.sysconf("SC_CLK_TCK")
 
     def close(self):
         with contextlib.suppress(Fault, OSError):
@@ -233,6 +244,10 @@ class Browser:
                 "Input.dispatchKeyEvent", type=kind, key=name, windowsVirtualKeyCode=code,
                 modifiers=8 if is_shift else 0,
             )  # fmt: skip
+
+    def processor_time(self):
+        """Seconds of processors that all processes of the browser took."""
+        return self._pipe.processor_time()
 
     def faults(self):
         """What the page complained of since the last time that this was asked."""

@@ -18,6 +18,39 @@ from octofix.io.optional import wanted
 
 COMMAND = [sys.executable, "-m", "octofix"]
 LIMIT = 1 << 30  # bytes of a file that the library takes
+SOON = 2  # seconds
+# Notes how many vertices were drawn, and when a map was opened and first seen, by a pixel that isn't
+# white.
+WATCH = """
+    window.seen = {vertices: 0};
+    const {drawArrays} = WebGL2RenderingContext.prototype;
+    WebGL2RenderingContext.prototype.drawArrays = function (kind, first, many) {
+      seen.vertices += many;
+      drawArrays.call(this, kind, first, many);
+    };
+    const isSeen = ({gl, canvas: {width, height}}) => {
+      const pixels = new Uint8Array(4 * width * height);
+      gl.readPixels(0, 0, width, height, gl.RGBA, gl.UNSIGNED_BYTE, pixels);
+      return pixels.some(it => it !== 255);
+    };
+    // (what is drawn to find how long a picture takes doesn't count)
+    const leaveOutTime = painter => {
+      const {time} = painter;
+      painter.time = camera => {
+        const {vertices} = seen, took = time.call(painter, camera);
+        seen.vertices = vertices;
+        return took;
+      };
+    };
+    const look = setInterval(() => {
+      const painter = window.viewer?.painter;
+      if (window.page?.maps.length) seen.opened ??= performance.now();
+      if (painter && !Object.hasOwn(painter, "time")) leaveOutTime(painter);
+      if (!painter?.solid.drawn || !isSeen(painter)) return;
+      Object.assign(seen, {first: performance.now(), parts: painter.solid.all.length});
+      clearInterval(look);
+    }, 2);
+"""
 
 
 def room(world):
@@ -33,6 +66,17 @@ def other_room(world):
     world.edit_box((0, 0, 0.15), (0.35, 0.35, 0.55), Event.SET, -400)
     world.edit_box((-0.5, -0.5, 0.1), (-0.35, -0.35, 0.45), Event.SET, 850)
     world.edit_box((0.5, -1, 0), (0.95, -0.65, 1.05), Event.FORGET)
+
+
+def street(world):
+    """Six million free voxels, apart from others, over a road and between two rows of pillars."""
+    for layer in range(0, 30, 2):
+        height = layer / 10 + 0.05
+        world.edit_box((-32, -32, height), (31.95, 31.95, height), Event.SET, -400)
+    world.edit_box((-32, -10, -0.1), (31.95, 10, -0.05), Event.SET, 850)
+    for at in range(-30, 31, 2):
+        for side in (-8, 8):
+            world.edit_box((at, side, 0), (at + 0.35, side + 0.35, 2.95), Event.SET, 1250)
 
 
 def tool(*words):
@@ -131,6 +175,31 @@ class Page(unittest.TestCase):
         self.assertLess(np.abs(colours[0].astype(int) - (68, 1, 84)).max(), 30)
         self.assertEqual(colours[1].tolist(), [255, 255, 255])
         self.assertEqual(self.window.faults(), [])
+
+    def test_a_large_map_is_seen_soon(self):
+        """A map of six million free voxels is seen two seconds after it was opened, before all its
+        parts are there, which are drawn once."""
+        with Map(0.1) as world:
+            street(world)
+            self.assertGreater(len(world.voxels("free")), 6_000_000)
+            world.save(self.folder / "street.bt")
+        self.start(WATCH)
+        self.window.drop(600, 350, self.folder / "street.bt")
+        self.window.until("seen.opened")
+        before = self.window.processor_time()
+        self.window.until("seen.first")
+        took = self.window.processor_time() - before
+        seen = self.window.js("seen")
+        # (other work on the machine lengthens what the clock says)
+        self.assertLess(min(took, (seen["first"] - seen["opened"]) / 1000), SOON)
+        self.settle()
+        self.assertLess(seen["parts"], self.window.js("viewer.painter.solid.all.length"))
+        self.window.until("!document.getElementById('facts').textContent.includes('counted')")
+        drawn = self.window.js("seen.vertices")
+        self.window.js("viewer.painter.draw(viewer.camera, false)")
+        picture = self.window.js("seen.vertices") - drawn
+        self.assertGreater(picture, 500_000)
+        self.assertLessEqual(drawn, picture)
 
     def test_free_is_drawn_where_it_is_asked_for(self):
         self.start()

@@ -5,7 +5,7 @@ import {answerCalls} from "../octofix-calls.mjs";
 import {FREE, OCCUPIED, ORIGIN, UNKNOWN} from "./tree.js";
 import {findFaces, layerOf, placesOf} from "./faces.js";
 import {coarseFaces} from "./supply.js";
-import {overlay, treeOf} from "./trees.js";
+import {boxOf, overlay, treeOf} from "./trees.js";
 
 const PARTS = 48;                       // in which faces are made, at least
 const MOST_GROUPS = 2 ** 26;
@@ -34,21 +34,22 @@ class Desk {
     return this.shown.get(number);
   }
 
-  // Opens a file, and tells of its map what needs no look at all that is free.
+  // Opens a file, and tells of its map what has to be known before it is drawn.
   open(bytes) {
     const map = this.octofix.OccMap.open(bytes, {maxGroups: MOST_GROUPS});
     const occupied = map.leaves("occupied");
     const number = this.keep({map, trees: {occupied: treeOf(occupied, () => OCCUPIED)}});
     return {
       number, resolution: map.resolution, nanometres: map.resolutionNm, memory: map.memory,
-      known: map.bounds("known"), filled: map.bounds("occupied"),
+      known: map.bounds("known"), filled: boxOf(occupied),
       hasValues: octofix.isSnapshot(bytes), occupied: voxelsIn(occupied.depth),
-      nodes: map.leastTree().nodes,
     };
   }
 
-  free(number) {
-    return voxelsIn(this.of(number).map.leaves("free").depth);
+  // What takes a look at all that is known.
+  counts(number) {
+    const {map} = this.of(number);
+    return {free: voxelsIn(map.leaves("free").depth), nodes: map.leastTree().nodes};
   }
 
   close(number) {
@@ -185,6 +186,6 @@ function pointsFile(map) {
 
 const desk = new Desk();
 answerCalls(self, Object.fromEntries([
-  "load", "open", "free", "close", "occupiedTree", "faces", "layers", "coarse", "ask", "seen",
+  "load", "open", "counts", "close", "occupiedTree", "faces", "layers", "coarse", "ask", "seen",
   "between", "box", "compare", "file", "grid",
 ].map(it => [it, desk[it].bind(desk)])));

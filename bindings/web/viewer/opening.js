@@ -105,12 +105,12 @@ class Page {
       this.say(`${map.name} can't be counted: ${why.message}.`));
   }
 
-  // Once all is drawn: how long that takes, and what takes a look at all that is free.
+  // Once all is drawn: how long that takes, and what takes a look at all that is known.
   async finish(map, viewer) {
     await viewer.supply.done();
     if (viewer !== window.viewer) return;
     viewer.weigh();
-    map.free ??= await this.desk.call("free", map.number);
+    if (map.free === undefined) Object.assign(map, await this.desk.call("counts", map.number));
     if (viewer === window.viewer) this.tellFacts(map);
   }
 
@@ -184,7 +184,8 @@ class Page {
       ["edge of a voxel", `${resolution} m`], ["occupied", voxels(map.occupied)],
       ["free", voxels(map.free)],
       ["known box", size ? `${size.map(it => +it.toFixed(4)).join(" × ")} m` : "none"],
-      ["nodes", count(map.nodes)], ["memory", `${(map.memory / 2 ** 20).toFixed(1)} MB`],
+      ["nodes", map.nodes === undefined ? "are counted" : count(map.nodes)],
+      ["memory", `${(map.memory / 2 ** 20).toFixed(1)} MB`],
       ["opened in", `${Math.round(map.took)} ms`],
     ]);
   }

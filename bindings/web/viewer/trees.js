@@ -36,6 +36,21 @@ export function treeOf(blocks, classAt) {
   return new Tree(maker.nodes.all, ends);
 }
 
+// The least box of keys that blocks lie in, or none.
+export function boxOf({depth, index}) {
+  if (!depth.length) return undefined;
+  const low = [Infinity, Infinity, Infinity], high = [-Infinity, -Infinity, -Infinity];
+  for (let at = 0; at < depth.length; at++) {
+    const edge = 1 << DEEPEST - depth[at];
+    for (let axis = 0; axis < 3; axis++) {
+      const start = index[3 * at + axis] * edge;
+      low[axis] = Math.min(low[axis], start);
+      high[axis] = Math.max(high[axis], start + edge - 1);
+    }
+  }
+  return {low, high};
+}
+
 class TreeMaker {
   constructor({depth, index}, classAt) {
     Object.assign(this, {depth, index, classAt, nodes: new Growing(), groups: 1});

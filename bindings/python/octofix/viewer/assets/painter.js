@@ -16,7 +16,9 @@ export class Painter {
   // map: its supply of faces, low, high and middle in voxels, the heights of what is occupied,
   // colours, and what draws it anew.
   constructor(canvas, map) {
-    const gl = canvas.getContext("webgl2", {alpha: false, antialias: true});
+    // (what is drawn stays, so that more is drawn over it)
+    const gl = canvas.getContext("webgl2",
+      {alpha: false, antialias: true, preserveDrawingBuffer: true});
     if (!gl) throw Error("this browser has no WebGL 2");
     Object.assign(this, {canvas, gl, map, uniforms: useProgram(gl), cuts: {}});
     const [up, x, y] = map.brightness;
@@ -45,7 +47,7 @@ export class Painter {
 
   add(parts, lists) {
     parts.add(new Stored(this.gl, lists));
-    this.map.redraw();
+    this.map.grow();
   }
 
   // Draws the occupied blocks of another supply too, in a colour.
@@ -100,12 +102,37 @@ export class Painter {
 
   // Draws all, or what is occupied alone and in few blocks.
   draw(camera, isCoarse) {
-    const {gl, uniforms, shown} = this;
+    const {gl, uniforms} = this;
     this.fit();
     gl.clear(gl.COLOR_BUFFER_BIT | gl.DEPTH_BUFFER_BIT);
     gl.uniformMatrix4fv(uniforms.view, false, camera.matrix());
     this.eye = camera.axes().eye.map((it, axis) => it + this.map.middle[axis]);
     this.useSlice();
+    const {opaque, clear} = this.parts();
+    for (const it of [...opaque, ...clear]) it.drawn = 0;
+    this.isCoarse = isCoarse;
+    this.paintAll(isCoarse);
+  }
+
+  // Draws what came since the last picture over it, so that all parts together take as long as one
+  // picture; and all anew where something opaque came after what one sees through.
+  drawMore(camera) {
+    const {opaque, clear} = this.parts();
+    if (opaque.some(it => it.isGrown) && clear.some(it => it.drawn)) this.draw(camera, false);
+    else this.paintAll(false);
+  }
+
+  // What comes in parts.
+  parts() {
+    const {solid, apart, border, walls, cuts} = this;
+    return {
+      opaque: [solid, cuts.occupied, ...apart.map(it => it.faces)].filter(Boolean),
+      clear: [border, walls, cuts.free].filter(Boolean),
+    };
+  }
+
+  paintAll(isCoarse) {
+    const {shown} = this;
     if (shown.occupied) {
       this.paint(isCoarse ? this.coarse : this.solid, BY_HEIGHT);
       this.close(this.cuts.occupied, BY_HEIGHT);
@@ -113,6 +140,8 @@ export class Painter {
     }
     if (this.marked) this.paintMark();
     this.paintClear(isCoarse);
+    const {opaque, clear} = this.parts();
+    for (const it of [...opaque, ...clear]) it.drawn = it.all.length;
   }
 
   // Draws what one sees through.

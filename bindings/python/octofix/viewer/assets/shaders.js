@@ -129,10 +129,14 @@ export class Stored {
   }
 }
 
-// Lists that come in parts, in any number and at any time.
+// Lists that come in parts, in any number and at any time; the first of them are drawn already.
 export class Parts {
   constructor() {
-    this.all = [];
+    Object.assign(this, {all: [], drawn: 0});
+  }
+
+  get isGrown() {
+    return this.drawn < this.all.length;
   }
 
   add(stored) {
@@ -141,7 +145,7 @@ export class Parts {
   }
 
   draw(run, uniforms) {
-    for (const it of this.all) it.draw(run, uniforms);
+    for (const it of this.all.slice(this.drawn)) it.draw(run, uniforms);
   }
 
   free() {

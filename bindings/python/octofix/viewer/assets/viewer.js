@@ -40,9 +40,18 @@ export class Viewer {
   }
 
   redraw() {
+    this.isStale = true;
+    this.grow();
+  }
+
+  // There is more to draw than in the picture, which is right so far, or stale.
+  grow() {
     this.isAsked ||= requestAnimationFrame(() => {
       this.isAsked = undefined;
-      this.painter.draw(this.camera, this.isMoving && this.painter.coarse !== undefined);
+      const isCoarse = Boolean(this.isMoving && this.painter.coarse), {isStale} = this;
+      this.isStale = false;
+      if (isStale || isCoarse || this.painter.isCoarse) this.painter.draw(this.camera, isCoarse);
+      else this.painter.drawMore(this.camera);
     });
   }
 
@@ -53,7 +62,7 @@ export class Viewer {
     this.resting = setTimeout(() => {
       this.isMoving = false;
       this.keep();
-      this.redraw();
+      if (this.painter.isCoarse) this.redraw();
     }, REST);
     this.redraw();
   }
