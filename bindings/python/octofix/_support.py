@@ -45,7 +45,12 @@ def change(event: npt.ArrayLike, number: npt.ArrayLike) -> tuple[int, int]:
 
 def pose(given: Any) -> tuple[list[float], list[float]] | None:
     """The place and the quaternion of a 4 x 4 matrix; None where it is none."""
-    if np.shape(given) != (4, 4):
+    try:
+        is_matrix = np.shape(given) == (4, 4)
+    except ValueError:
+        # (rows of several lengths, which are refused in their turn)
+        is_matrix = False
+    if not is_matrix:
         return None
     try:
         rows = _arrays.real(given, "a position").astype(float).ravel().tolist()
