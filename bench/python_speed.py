@@ -113,13 +113,11 @@ def measure_batches(world, beside, draw):
     many = draw.uniform(-4, 4, (COUNT, 3))
     floats, lines = many.astype(np.float32), np.cumsum(many / 200, axis=0) % 8 - 4
     sparse = draw.uniform(-50, 50, (COUNT, 3))
-    # (along lines the library takes so little that what is left weighs more)
-    for name, points, most in (
-        ("anywhere", many, 1.1), ("along lines", lines, 1.15), ("far apart", sparse, 1.1),
-        ("of floats", floats, 1.15),
+    for name, points in (
+        ("anywhere", many), ("along lines", lines), ("far apart", sparse), ("of floats", floats),
     ):  # fmt: skip
         call = (beside, "get_all", points)
-        measure_ratio(f"get of {COUNT} points {name}", lambda: world.get(points), most, call)
+        measure_ratio(f"get of {COUNT} points {name}", lambda: world.get(points), 1.1, call)
     numbers = np.full(COUNT, 5)
     world.set(many, 5)
     for name, number in (("one number", 5), ("a number each", numbers)):

@@ -109,14 +109,50 @@ static inline bool put_turned(double x, double y, double z, const double *m, int
 CONVERT(convert_doubles, double)
 CONVERT(convert_floats, float)
 
+/* Two numbers at once. */
+typedef double pair __attribute__((vector_size(16)));
+typedef float float_pair __attribute__((vector_size(8)));
+typedef int64_t whole_pair __attribute__((vector_size(16)));
+
+/* From 2^52 up to 2^53 the last bit of a double is worth 1. So a sum of ROUNDER and a number below
+ * 2^51 is rounded to a whole number, halves to even, as llrint does it; and the first bits of each
+ * other sum, which have its sign and exponent, aren't those of ROUNDER. */
+static const double ROUNDER = 0x1.8p52;
+enum { AFTER_EXPONENT = 52, AHEAD = 4096 };
+
+/* Numbers that stand one after another, an even count of them; answers whether all are so small. */
+#define CONVERT_PAIRS(name, type)                                                                  \
+    static bool name(const char *from, size_t count, int64_t *to) {                                \
+        const pair rounder = {ROUNDER, ROUNDER};                                                   \
+        whole_pair differing = {0, 0};                                                             \
+        for (size_t at = 0; at < count; at += 2, from += sizeof(type)) {                           \
+            type metres;                                                                           \
+            __builtin_prefetch(from + AHEAD);                                                      \
+            memcpy(&metres, from, sizeof metres);                                                  \
+            const pair sum = __builtin_convertvector(metres, pair) * NANOMETRES + rounder;         \
+            const whole_pair rounded = (whole_pair)sum - (whole_pair)rounder;                      \
+            memcpy(to + at, &rounded, sizeof rounded);                                             \
+            differing |= (whole_pair)sum ^ (whole_pair)rounder;                                    \
+        }                                                                                          \
+        return (uint64_t)(differing[0] | differing[1]) >> AFTER_EXPONENT == 0;                     \
+    }
+CONVERT_PAIRS(convert_doubles_by_two, pair)
+CONVERT_PAIRS(convert_floats_by_two, float_pair)
+
 /* Some of the rows as whole nanometres, turned where `by` is given, each `step` numbers after the
  * last; answers how many there are before the first that is no point. */
 size_t convert(const source *it, size_t start, size_t count, const turn *by, void *to,
                size_t step) {
     const char *from = it->first + (Py_ssize_t)start * it->row;
     const double *matrix = by && by->is_turned ? by->matrix : NULL;
-    return (it->is_float ? convert_floats : convert_doubles)(from, it->row, it->column, count,
-                                                             matrix, to, step);
+    const Py_ssize_t size = it->is_float ? sizeof(float) : sizeof(double);
+    size_t done = count - count % 2;
+    if (matrix || step != 3 || it->column != size || it->row != 3 * size ||
+        !(it->is_float ? convert_floats_by_two : convert_doubles_by_two)(from, 3 * done, to))
+        done = 0;
+    return done + (it->is_float ? convert_floats : convert_doubles)(
+                      from + (Py_ssize_t)done * it->row, it->row, it->column, count - done, matrix,
+                      (int64_t *)to + done * step, step);
 }
 
 int fail_points(const char *what, size_t index) {

@@ -31,8 +31,10 @@ typedef struct {
     size_t refused; /* the row that the code is about, or all rows */
 } question;
 
-static bool write_values(int32_t *to, const octofix_answer *answers, size_t count) {
-    bool is_any_refused = false;
+/* (both in a form that the compiler does several answers of at once) */
+static bool write_values(int32_t *restrict to, const octofix_answer *restrict answers,
+                         size_t count) {
+    uint32_t is_any_refused = 0;
     for (size_t at = 0; at < count; at++) {
         to[at] = answers[at].code ? UNKNOWN_VALUE : answers[at].value;
         is_any_refused |= is_refused(answers[at]);
@@ -40,9 +42,9 @@ static bool write_values(int32_t *to, const octofix_answer *answers, size_t coun
     return is_any_refused;
 }
 
-static bool write_classes(int8_t *to, const octofix_answer *answers, size_t count,
-                          int32_t threshold) {
-    bool is_any_refused = false;
+static bool write_classes(int8_t *restrict to, const octofix_answer *restrict answers,
+                          size_t count, int32_t threshold) {
+    uint32_t is_any_refused = 0;
     for (size_t at = 0; at < count; at++) {
         to[at] = (int8_t)class_of(answers[at], threshold);
         is_any_refused |= is_refused(answers[at]);
