@@ -112,6 +112,8 @@ SUITES = (
           needs="2.5 GB of memory, 2 GB of disk, a quiet machine", only_proved=True),
     Suite("speed_python", "the package beside C++", "bench/python_speed.py library", 60,
           set=NIGHTLY, needs="g++, python3-dev, a quiet machine", only_proved=True),
+    Suite("speed_web", "the module in Node beside the native library", "bench/web_speed.py library",
+          30, set=NIGHTLY, needs="gcc, python3-dev, Node 20, a quiet machine"),
     Suite("speed_tools", "clouds to a map beside a session",
           "bench/tools_speed.py program library", 120, set=NIGHTLY, needs="a quiet machine",
           only_proved=True),

@@ -9,7 +9,9 @@ import os
 import shutil
 import subprocess
 import sys
+import tempfile
 import threading
+import time
 from pathlib import Path
 
 WEB = Path(__file__).resolve().parents[1]
@@ -20,8 +22,9 @@ import browser  # noqa: E402
 NODE = "node"
 FLAG = "--experimental-wasm-memory64"
 LEAST_NODE = 20
-# How long Node may take for the calls that it is asked for, in seconds.
-PATIENCE = 300
+# Node that takes no processor time for so many seconds waits for itself for ever.
+IDLE = 60
+STARTS = 3
 # What a module's function answers, of where files are (`at`) and more words.
 ASK = "import({module}).then(it => it.{function}({at}, ...{words}))"
 
@@ -43,6 +46,38 @@ def _said(*words):
     return subprocess.run(words, capture_output=True, text=True).stdout.strip()
 
 
+def run_started(words, idle=None):
+    """Runs Node, and once more where it waits for itself: Node 20 was seen to do that as it began,
+    once in some ten starts."""
+    for _ in range(STARTS):
+        ran = _run_unless_idle(words, IDLE if idle is None else idle)
+        if ran is not None:
+            return ran
+    raise AssertionError(f"{words[0]} waited for itself in each of {STARTS} starts")
+
+
+def _run_unless_idle(words, idle):
+    """What a process came to; None where it was ended since it took no processor time for long."""
+    with tempfile.TemporaryFile("w+") as out, tempfile.TemporaryFile("w+") as said:
+        with subprocess.Popen(words, stdout=out, stderr=said) as process:
+            took, since = None, time.monotonic()
+            while process.poll() is None:
+                now = _ticks_of(process.pid)
+                if now != took:
+                    took, since = now, time.monotonic()
+                elif time.monotonic() - since > idle:
+                    process.kill()
+                    return None
+                time.sleep(0.02)
+        texts = [(it.seek(0), it.read())[1] for it in (out, said)]
+    return subprocess.CompletedProcess(words, process.returncode, *texts)
+
+
+def _ticks_of(process):
+    fields = Path(f"/proc/{process}/stat").read_text().rpartition(")")[2].split()
+    return int(fields[11]) + int(fields[12])
+
+
 class InNode:
     """Calls of functions of modules, in Node."""
 
@@ -55,19 +90,10 @@ class InNode:
             words=json.dumps(words),
         )  # fmt: skip
         text = f"{asked}.then(it => console.log(JSON.stringify(it ?? null)))"
-        ran = self._run([*node(), "--expose-gc", "-e", text])
+        ran = run_started([*node(), "--expose-gc", "-e", text])
         if ran.returncode:
             raise AssertionError(ran.stderr)
         return json.loads(ran.stdout.splitlines()[-1])
-
-    def _run(self, words):
-        """Runs Node, and once more where it doesn't end: Node 20 was seen to wait for itself for
-        ever as it began, once in some ten starts."""
-        how = {"capture_output": True, "text": True, "timeout": PATIENCE}
-        try:
-            return subprocess.run(words, **how)
-        except subprocess.TimeoutExpired:
-            return subprocess.run(words, **how)
 
     def close(self):
         pass

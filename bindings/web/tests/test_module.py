@@ -3,6 +3,7 @@
 import os
 import shutil
 import subprocess
+import sys
 import tempfile
 import unittest
 from pathlib import Path
@@ -47,6 +48,18 @@ class Module(unittest.TestCase):
                 found = engine.ask("tests/module.mjs", "run")
                 self.assertEqual(found["faults"], {})
                 self.assertGreater(found["count"], 9)
+
+    def test_a_start_that_waits_for_itself(self):
+        """It is ended, and another one is made; one that works is let be."""
+        first = self.folder / "first"
+        script = f"[ -e {first} ] || {{ : >{first}; exec sleep 60; }}; echo 7; exit 3"
+        ran = engines.run_started(["sh", "-c", script], idle=0.5)
+        self.assertEqual((ran.returncode, ran.stdout), (3, "7\n"))
+        busy = "import time; [0 for _ in iter(lambda: time.thread_time() < 2, False)]; print(8)"
+        ran = engines.run_started([sys.executable, "-c", busy], idle=1.5)
+        self.assertEqual((ran.returncode, ran.stdout), (0, "8\n"))
+        with self.assertRaisesRegex(AssertionError, "in each of 3 starts"):
+            engines.run_started(["sleep", "60"], idle=0.2)
 
     @unittest.skipUnless(shutil.which("tsc"), "tsc is not here (Debian has it as node-typescript)")
     def test_types(self):

@@ -19,8 +19,8 @@ from octofix.io.optional import wanted
 COMMAND = [sys.executable, "-m", "octofix"]
 LIMIT = 1 << 30  # bytes of a file that the library takes
 SOON = 2  # seconds
-# Notes how many vertices were drawn, and when a map was opened and first seen, by a pixel that isn't
-# white.
+# Notes how many vertices were drawn, and when a map was opened and first seen, by a pixel that is
+# not white.
 WATCH = """
     window.seen = {vertices: 0};
     const {drawArrays} = WebGL2RenderingContext.prototype;
