@@ -177,7 +177,7 @@ reserving n old =
       enough = λ l. refl;
     }
 
-replicate_more : (j k : ℕ) → vacant j ++ vacant k ≡ vacant (j + k)
+pub replicate_more : (j k : ℕ) → vacant j ++ vacant k ≡ vacant (j + k)
 replicate_more zero k = let e : k ≡ zero + k = omega arith in ap vacant e
 replicate_more (suc j) k =
     let e : suc (j + k) ≡ suc j + k = omega arith in

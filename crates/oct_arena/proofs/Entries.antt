@@ -102,7 +102,7 @@ pub home_with : (e : Option Group) (i : ℕ) (n : Node) → home_of (with_node e
 home_with None i n = refl
 home_with (Some g) i n = refl
 
-none_in_vacant : (k j : ℕ) → entry (vacant k) j ≡ None
+pub none_in_vacant : (k j : ℕ) → entry (vacant k) j ≡ None
 none_in_vacant k j = elim (cases_lt j k) [
   | inl l ↦ get_or-replicate k j None None l
   | inr m ↦ get_or_past (vacant k) j None (rw (length-replicate {A = Option Group} k None) m)

@@ -1,5 +1,6 @@
 pub mod Calls
 pub mod Chunks
+pub mod Copies
 pub mod Callers
 pub mod Entries
 pub mod FreeLists

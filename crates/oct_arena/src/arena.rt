@@ -1,6 +1,7 @@
 //! Groups under ids: taken from the entries that were given back, or from those never taken.
 ghost use Rattle.std.specs.Prelude.{◌≡◌, ℕ, ◌+◌, ◌-◌, ◌*◌, ◌<◌, ◌≤◌, ◌^◌, [], ◌++◌, length};
-ghost use Rattle.std.specs.Prelude.{slice_set, Some, None, OnOk, OnErr, IsOk, max, option_map};
+ghost use Rattle.std.specs.Prelude.{slice_set, Some, None, OnOk, OnErr, IfOk, IsOk, max};
+ghost use Rattle.std.specs.Prelude.{option_map};
 ghost use Rattle.oct_arena.specs.declared.node.Node.TheVariants.{Inner};
 ghost use Rattle.oct_key.specs.Block.{Cube};
 ghost use Rattle.oct_key.specs.CubeOf.{cube_of};
@@ -53,6 +54,23 @@ impl NodeArena {
             given: 0,
             used: 0,
         }
+    }
+
+    /// An arena of its own with the same groups under the same ids, and the same room. Ids are
+    /// taken in it in the same order.
+    ///
+    /// `Memory` comes only where this arena has taken memory.
+    pub fn copy(&self) -> Result<NodeArena, Memory>
+        ensures exact { IfOk result (λ copy. copy ≡ self.now) }
+        ensures none { self.now ≡ [] → IsOk result }
+        ensures arena { IsArena self.now }
+    {
+        Ok(NodeArena {
+            rows: self.rows.copy(self.used as usize)?,
+            head: self.head,
+            given: self.given,
+            used: self.used,
+        })
     }
 
     /// Makes room for n more groups, and for at most 1,023 more than these where there wasn't room

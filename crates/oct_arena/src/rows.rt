@@ -1,6 +1,6 @@
 //! The groups of all chunks, numbered through.
 ghost use Rattle.std.specs.Prelude.{◌≡◌, ◌<◌, ◌≤◌, ◌^◌, ◌++◌, [], length, slice_set, Some, None};
-ghost use Rattle.std.specs.Prelude.{OnOk, OnErr};
+ghost use Rattle.std.specs.Prelude.{ℕ, OnOk, OnErr, IfOk, IsOk};
 ghost use Rattle.oct_arena.specs.Entries.{IsLive, entry, with_node, vacant};
 
 use crate::chunk::{CHUNK, Chunk};
@@ -91,5 +91,24 @@ impl Rows {
         let chunk = Chunk::new(self.alloc)?;
         self.chunks.push(chunk)?;
         Ok(())
+    }
+
+    /// A copy in chunks of its own. The memory of entries that were never taken isn't read.
+    pub(crate) fn copy(&self, used: usize) -> Result<Rows, AllocError>
+        requires within { used ≤ length self.now }
+        requires full { (i : ℕ) → i < used → IsLive self.now i }
+        requires empty { (i : ℕ) → used ≤ i → entry self.now i ≡ None }
+        ensures exact { IfOk result (λ rows. rows ≡ self.now) }
+        ensures none { self.now ≡ [] → IsOk result }
+    {
+        let mut rows = Rows::new(self.alloc);
+        'room: for _chunk in 0..self.chunks.len() {
+            rows.append()?;
+        }
+        'copy: for i in 0..used {
+            let group = self.get(i);
+            rows.write(i, group.home, group.nodes);
+        }
+        Ok(rows)
     }
 }

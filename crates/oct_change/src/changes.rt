@@ -76,6 +76,22 @@ impl Changes {
         }
     }
 
+    /// The same notes again, with the same room. `Memory` comes only where these have room.
+    pub fn copy(&self) -> Result<Changes, Memory>
+        ensures exact { IfOk result (λ copy. copy ≡ self.now) }
+        ensures none { room_of self.now ≡ 0 → IsOk result }
+    {
+        let mut notes = Vec::new(self.alloc);
+        notes.reserve_exact(self.notes.capacity())?;
+        'copy: for note in self.notes.as_slice() {
+            notes.push_reserved(*note);
+        }
+        Ok(Changes {
+            notes,
+            alloc: self.alloc,
+        })
+    }
+
     /// How many notes there are.
     pub fn len(&self) -> u64
         ensures { result ≡ length self.now.notes }

@@ -23,6 +23,7 @@
 //!   [`Changes::compact`] makes room too, but where there is none, only each voxel's first note
 //!   stays, in room for at least as many again (`IsCompacted`). So room is bounded by the voxels
 //!   that were noted, each counted once, however often they are noted.
+//! - [`Changes::copy`] answers other notes with the same value: the same list, in as much room.
 //! - The first note of a voxel since the mark counts. So the classes at the mark (`marked_by`) are
 //!   those of the first notes, and the classes now where nothing was noted. The lemma `mark_kept`
 //!   says that an edit doesn't change them, if each voxel that changes its class was noted before.

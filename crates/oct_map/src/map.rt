@@ -35,6 +35,7 @@ ghost use Rattle.oct_map.specs.Edits.{IsReadied, KeepsAllElse, LacksEntries, Res
 ghost use Rattle.oct_map.specs.Edits.{entries_of};
 ghost use Rattle.oct_map.specs.Edits.{fitted_groups};
 
+mod copying;
 mod loading;
 mod marking;
 mod merging;

@@ -46,6 +46,18 @@ impl Mark {
         Mark { changes: None }
     }
 
+    /// The same mark again, with the same notes and room, or none where none stands.
+    pub(crate) fn copy(&self) -> Result<Mark, Memory>
+        ensures exact { IfOk result (λ copy. copy ≡ self.now) }
+        ensures none { note_room self.now ≡ 0 → IsOk result }
+    {
+        let changes = match &self.changes {
+            Some(changes) => Some(changes.copy()?),
+            None => None,
+        };
+        Ok(Mark { changes })
+    }
+
     /// Sets the mark at this moment, with no notes. Takes no memory.
     pub(crate) fn set(&mut self, alloc: Global)
         ensures { self.new ≡ Some (record { notes = []; spare = 0 }) }

@@ -35,7 +35,8 @@
 //! - All of a tree that lies outside the place's block is as it was (`IsSameOutside`). Such changes
 //!   join: one after another, and from a child to its block, so that a walk over a whole subtree is
 //!   one change of its block.
-//! - [`OccTree::reserve`] is the only call that asks for memory, and changes no node.
+//! - [`OccTree::reserve`] changes no node, and [`OccTree::copy`] answers another tree with the same
+//!   ones. No other call asks for memory.
 //!
 //! A tree is well-formed where each group has a node that is not absent (`IsWellFormed`), fresh
 //! where each inner value is the greatest of its group (`IsFresh`), and pruned where no group could
@@ -46,8 +47,7 @@
 //! that changes a node forgets it, so that what is known is so (`IsTrueOf`). An edit of such a tree
 //! can end early.
 //!
-//! `at` reads at most sixteen nodes of the arena, `settle` those of one group, and no call
-//! but `reserve` allocates.
+//! `at` reads at most sixteen nodes of the arena, and `settle` those of one group.
 //!
 //! Edits, passes, queries and the map stand on this crate. They cite the definitions in `specs/`,
 //! and `proofs/` has the lemmas for them: how paths run and which places they read (`Paths`), what

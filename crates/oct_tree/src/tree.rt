@@ -1,6 +1,6 @@
 //! The linked tree, and the calls that change one node, or one and its group.
 ghost use Rattle.std.specs.Prelude.{◌≡◌, ℕ, ◌+◌, ◌-◌, ◌<◌, ◌≤◌, ◌^◌, ◌↔◌, ◌++◌, [], length, max};
-ghost use Rattle.std.specs.Prelude.{Some, None, IsSome, IsTrue, IsOk, OnOk};
+ghost use Rattle.std.specs.Prelude.{Some, None, IsSome, IsTrue, IsOk, OnOk, IfOk};
 ghost use Rattle.std.specs.Bool.{OnTrue, OnFalse};
 ghost use Rattle.oct_key.specs.Voxel.{Voxel, IsInMap};
 ghost use Rattle.oct_key.specs.Block.{Cube, HoldsVoxel, block_of};
@@ -82,6 +82,23 @@ impl OccTree {
                 pruned: true,
             },
         }
+    }
+
+    /// A tree of its own with the same nodes, in groups with the same ids, and with the same room.
+    ///
+    /// `Memory` comes only where this tree has taken memory.
+    pub fn copy(&self) -> Result<OccTree, Memory>
+        ensures exact { IfOk result (λ copy. copy ≡ self.now) }
+        ensures none { self.now.groups ≡ [] → IsOk result }
+        ensures linked { IsLinked self.now }
+    {
+        Ok(OccTree {
+            arena: self.arena.copy()?,
+            root: self.root,
+            res: self.res,
+            odds: self.odds,
+            known: self.known,
+        })
     }
 
     /// What is known of the inner nodes of the tree. What isn't known may be so.
