@@ -30,3 +30,10 @@ pub record IsAnswered {A : Type 0} (answer : Result A Refusal) (may_run_out : Ty
   pub right : IsReached answer may_run_out reached
   pub coded : code ≡ answer_code reached
   pub detailed : details ≡ answer_details reached
+
+-- the same, of a call that tells its code alone
+pub record IsCoded {A : Type 0} (answer : Result A Refusal) (may_run_out : Type 0) (code : ℕ)
+    : Type 0 where
+  pub reached : Result A Refusal
+  pub right : IsReached answer may_run_out reached
+  pub coded : code ≡ answer_code reached

@@ -58,6 +58,12 @@ abbrev pub opening : Option Map → ℤ → LogOdds → MapLimits → Result ⊤
 opening None res o l = making res o l
 opening (Some m) res o l = Err refusal.Open
 
+-- the answer to a copy of the map of a handle into another handle
+abbrev pub copying : Option Map → Option Map → Result ⊤ Refusal
+copying None other = Err refusal.Closed
+copying (Some m) None = Ok tt
+copying (Some m) (Some o) = Err refusal.Open
+
 -- there is a map, that of the unknown world, with these settings, and without a mark
 abbrev pub IsNew : Option Map → ℤ → LogOdds → MapLimits → Type 0
 IsNew None res o l = ⊥

@@ -3,11 +3,11 @@ ghost use Rattle.std.specs.Prelude.{◌≡◌, ◌≢◌, None, Some, Ok, true, 
 ghost use Rattle.std.specs.Prelude.{IfErr, IsOk};
 ghost use Rattle.oct_odds.specs.declared.model.OddsField.{OddsField};
 ghost use Rattle.oct_odds.specs.Odds.{first_bad_field, odds_of};
-ghost use Rattle.octofix.specs.Asked.{IsAnswered, IsReached, asked};
+ghost use Rattle.octofix.specs.Asked.{IsAnswered, IsCoded, IsReached, asked};
 ghost use Rattle.octofix.specs.Changed.{open_code};
 ghost use Rattle.octofix.specs.Codes.{answer_value};
 ghost use Rattle.octofix.specs.Settings.{IsNew, are_limits, bytes_of, odds_from, odds_told};
-ghost use Rattle.octofix.specs.Settings.{opening, settings_in};
+ghost use Rattle.octofix.specs.Settings.{copying, opening, settings_in};
 ghost use Rattle.octofix.specs.declared.refusal.Refusal.TheVariants.{BadArgument, BadModel};
 
 use crate::answers::{code_of, details_of, tell};
@@ -127,6 +127,39 @@ pub extern "C" fn octofix_open(
     let answer = open(alloc, handle, res, *odds, *limits);
     *details = details_of(&answer);
     code_of(&answer)
+}
+
+/// Puts a copy of the map of a handle into another one that has none.
+fn copy(alloc: Global, handle: &mut Octofix, other: &mut Octofix) -> Result<(), Refusal>
+    ensures answer { IsReached (copying handle.old.slot.map other.old.slot.map)
+        (IsOk (copying handle.old.slot.map other.old.slot.map)) result }
+    ensures same { handle.new ≡ handle.old }
+    ensures copied { OnOk result (other.new.slot.map ≡ handle.old.slot.map) }
+    ensures refused { OnErr result (other.new ≡ other.old) }
+{
+    let map = handle.map_mut()?;
+    if other.is_open() {
+        return Err(Refusal::Open);
+    }
+    let map = Box::new(alloc, map.copy()?).map_err(Memory::from)?;
+    replace(other, Octofix::of(map)).end();
+    Ok(())
+}
+
+/// Puts a copy of the map into another handle, which has none: a map of its own, equal in all that
+/// is asked of it, its stale flag, its limits and its mark among that.
+///
+/// It is refused where the handle has no map, where the other one has a map, and where memory runs
+/// out.
+#[unsafe(no_mangle)]
+pub extern "C" fn octofix_copy(alloc: Global, handle: &mut Octofix, other: &mut Octofix) -> u32
+    ensures answer { IsCoded (copying handle.old.slot.map other.old.slot.map)
+        (IsOk (copying handle.old.slot.map other.old.slot.map)) result }
+    ensures same { handle.new ≡ handle.old }
+    ensures copied { result ≡ DONE → other.new.slot.map ≡ handle.old.slot.map }
+    ensures refused { result ≢ DONE → other.new ≡ other.old }
+{
+    code_of(&copy(alloc, handle, other))
 }
 
 /// Takes the map out of a handle, and gives its memory back.
