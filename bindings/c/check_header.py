@@ -38,7 +38,7 @@ TEXT, TEXT_FIELDS = "&[u8]", [("at", "*const u8"), ("length", "usize")]
 HANDLES = {"Octofix": "octofix_map", "Shared": "const octofix_map"}
 # A clause that says so of a handle that a call takes as one that it may change: it is the same
 # afterwards, with its map and the place where that stands.
-SAME = re.compile(r"\{\s*handle\.new\s*≡\s*handle\.old\s*\}")
+SAME = re.compile(r"\{\s*(\w+)\.new\s*≡\s*\1\.old\s*\}")
 
 
 class Differs(Exception):
@@ -86,10 +86,10 @@ def exports(text):
     for it in form.finditer(text):
         if it[4]:
             raise Differs(f"{it[4]} doesn't answer a u32")
-        given = []
+        given, same = [], SAME.findall(it[3])
         for one in filter(None, map(str.strip, it[2].split(","))):
             name, kind = one.split(":", 1)
-            given += parameters(name.strip(), kind.strip(), bool(SAME.search(it[3])))
+            given += parameters(name.strip(), kind.strip(), name.strip() in same)
         found[it[1]] = given
     return found
 

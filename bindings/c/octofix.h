@@ -33,12 +33,13 @@
  * written by each call that takes them, on every code: two numbers that say what is refused, by the
  * table of codes, or two zeros. With each call stand the codes that it may be refused with, without
  * their OCTOFIX_ and in the order in which they come, where nothing else is said. A call that takes
- * a handle answers CLOSED for a closed one before anything else, and octofix_open alone wants one.
+ * a handle answers CLOSED for a closed one before anything else; octofix_open alone wants one, and
+ * octofix_copy for its copy.
  *
  * Ownership. A handle is a struct that the caller keeps. All zeros are a closed handle, without a
- * map. octofix_open puts a map in, which is on the heap and belongs to the handle, and
- * octofix_close takes it away; a map that isn't closed is lost. An open handle may be moved, as a
- * struct is copied, if the old place isn't used again: two handles must never hold one map. All
+ * map. octofix_open and octofix_copy put a map in, which is on the heap and belongs to the handle,
+ * and octofix_close takes it away; a map that isn't closed is lost. An open handle may be moved, as
+ * a struct is copied, if the old place isn't used again: two handles must never hold one map. All
  * else that is passed stays the caller's, and nothing that is passed is kept.
  *
  * Lists. A call that lists things takes a buffer, its room (for how many things there is room), and
@@ -272,6 +273,12 @@ OCTOFIX_INLINE const char *octofix_code_name(uint32_t code) {
  * begins with less than 4 kilobytes. */
 uint32_t octofix_open(octofix_map *map, int64_t res, const octofix_odds *odds,
                       const octofix_limits *limits, octofix_details *details);
+
+/* Opens the other handle with a copy of the map: a map of its own, equal in all that is asked of it
+ * and done with it, its limits, its staleness and its mark among that. It holds as much memory, and
+ * one pass over that is what it costs. Refused, with the other handle as it was: CLOSED, OPEN (the
+ * other handle), MEMORY. */
+uint32_t octofix_copy(const octofix_map *map, octofix_map *other);
 
 /* Closes the map, and gives all its memory back. Refused: CLOSED, so that a second close does
  * nothing. */

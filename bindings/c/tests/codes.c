@@ -124,7 +124,10 @@ static void try_closed_handle(void) {
     octofix_map other = opened(&default_odds, &default_limits);
     EXPECT_DETAILS(octofix_merge(&map, &other, 3, &details), 40, 0, 0);
     EXPECT_DETAILS(octofix_merge(&other, &map, 3, &details), 40, 0, 0);
+    EXPECT(octofix_copy(&map, &other), 40);
     octofix_close(&other);
+    EXPECT(octofix_copy(&map, &other), 40);
+    EXPECT(other.is_open, false);
     EXPECT(octofix_counts_of(&map, &counts), 40);
     EXPECT(octofix_least_tree_of(&map, &least), 40);
     EXPECT(octofix_get(&map, &p, 99, &value), 40);

@@ -99,6 +99,14 @@ static uint32_t merge(octofix_map *map) {
     octofix_close(&other);
     return code;
 }
+/* (the copy is closed again: it is there exactly where the call was done) */
+static uint32_t copy(octofix_map *map) {
+    octofix_map other = {0};
+    const uint32_t code = octofix_copy(map, &other);
+    EXPECT(other.is_open, code == OCTOFIX_DONE);
+    octofix_close(&other);
+    return code;
+}
 static uint32_t counts(octofix_map *map) {
     octofix_counts least;
     return octofix_counts_of(map, &least);
@@ -138,7 +146,7 @@ static uint32_t take_snapshot(octofix_map *map) {
 static uint32_t (*const calls[])(octofix_map *) = {
     scan,   edit,           edit_box, edit_all,  load, restore, clear,        refresh, prune,
     counts, max_likelihood, leaves,   leaves_in, list, save,    list_changes, track,
-    take_snapshot, merge,   leaves_of, scan_in_map};
+    take_snapshot, merge,   leaves_of, scan_in_map, copy};
 
 /* A map that is scanned, and tracked where that is wanted. */
 static octofix_map scanned(bool is_tracked) {
