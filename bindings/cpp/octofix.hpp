@@ -89,14 +89,11 @@ class map {
                                          : from_bt(file, log_odds, most);
     }
 
-    /// A map of its own with these values, log-odds, limits and update box. It isn't stale, and
-    /// has no mark. Refused as snapshot().
+    /// A map of its own that is equal in all that is asked of it, its limits, its staleness and its
+    /// mark among that.
     [[nodiscard]] map copy() const {
-        const octofix::settings now = settings();
         map other;
-        details named{};
-        detail::check(octofix_open(&other.handle_, now.res, &now.odds, &now.limits, &named), named);
-        other.restore(snapshot());
+        detail::check(octofix_copy(&handle_, &other.handle_));
         return other;
     }
     /// Another name of copy().
@@ -263,7 +260,9 @@ class map {
             [&](auto *it, auto... out) { return octofix_list(it, &low, &high, depth, out...); });
     }
     /// The largest blocks of one value each, in Morton order: all that is known.
-    [[nodiscard]] std::vector<block> leaves() const { return listed<block>(&octofix_leaves); }
+    [[nodiscard]] std::vector<block> leaves() const {
+        return listed_leaves([&](auto... out) { return octofix_leaves(&handle_, out...); });
+    }
     /// Those that meet a box, each as a whole.
     [[nodiscard]] std::vector<block> leaves(const point &low, const point &high) const {
         return listed_in_box(
@@ -272,8 +271,8 @@ class map {
     /// Those whose voxels are occupied, or free. Of a map that isn't stale occupied ones are found
     /// without a look at all that is free.
     [[nodiscard]] std::vector<block> leaves(sought what) const {
-        return listed<block>([&](auto *it, auto... out) {
-            return octofix_leaves_of(it, static_cast<std::uint32_t>(what), out...);
+        return listed_leaves([&](auto... out) {
+            return octofix_leaves_of(&handle_, static_cast<std::uint32_t>(what), out...);
         });
     }
     /// Those of them that meet a box, each as a whole.
@@ -415,6 +414,11 @@ class map {
     /// All that a query lists.
     template <class T, class Call> std::vector<T> listed(Call call) const {
         return detail::listed<T>([&](auto... out) { return call(&handle_, out...); });
+    }
+    /// Leaves that a call lists, in one walk where they are no more than there may be.
+    template <class Call> std::vector<block> listed_leaves(Call call) const {
+        const detail::listed_blocks all(detail::most_leaves(memory()), call);
+        return std::vector<block>(all.first.get(), all.first.get() + all.count);
     }
     /// A scan by one of the two calls.
     template <class Call, class Sensor>

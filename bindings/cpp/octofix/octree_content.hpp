@@ -32,8 +32,8 @@ class OcTreeContent : public OcTreeGrid {
         auto other = std::make_unique<OcTreeContent>(edge(), bounds_);
         other->map_ = map_.copy();
         other->is_expanded_ = is_expanded_;
-        other->kept_ = changed();
-        if (is_tracking_) other->track(true);
+        other->kept_ = kept_;
+        other->is_tracking_ = is_tracking_;
         return other;
     }
     const OcTreeGrid &grid() const { return *this; }
@@ -229,8 +229,7 @@ class OcTreeContent : public OcTreeGrid {
         if (!leaves_) leaves_ = shared_leaves({most_leaves(), list});
         return leaves_;
     }
-    /// How many leaves there may be: one takes more than eight bytes of most maps.
-    std::size_t most_leaves() const { return map_.memory() / 8 + 1; }
+    std::size_t most_leaves() const { return detail::most_leaves(map_.memory()); }
     std::shared_ptr<OcTreeLeaves> shared_leaves(detail::listed_blocks blocks) {
         return std::make_shared<OcTreeLeaves>(this, std::move(blocks), is_expanded_);
     }

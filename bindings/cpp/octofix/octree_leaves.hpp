@@ -4,35 +4,12 @@
 
 #include "../octofix.hpp"
 
-#include <cstddef>
 #include <cstdint>
-#include <memory>
 #include <utility>
 
 namespace octofix {
 
 class OcTreeContent;
-
-namespace detail {
-
-/// Blocks that a call has listed. (Memory that nothing was written to isn't touched.)
-struct listed_blocks {
-    /// Asks with so much room at first, and again where there are more.
-    template <class Call> listed_blocks(std::size_t room, Call call) : first(new block[room]) {
-        std::uint32_t code = call(first.get(), room, &count);
-        if (code == OCTOFIX_SMALL_BUFFER) {
-            first.reset(new block[count]);
-            code = call(first.get(), count, &count);
-        }
-        check(code);
-    }
-    listed_blocks() = default;
-
-    std::unique_ptr<block[]> first;
-    std::size_t count = 0;
-};
-
-} // namespace detail
 
 /// The leaves in Morton order. Where voxels alone are wanted, each leaf is shown as its voxels.
 class OcTreeLeaves {

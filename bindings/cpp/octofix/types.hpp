@@ -7,6 +7,7 @@
 #include <cstddef>
 #include <cstdint>
 #include <iterator>
+#include <memory>
 #include <new>
 #include <optional>
 #include <stdexcept>
@@ -159,6 +160,28 @@ template <class T, class Call> std::vector<T> listed(Call call) {
     check(code);
     found.resize(count);
     return found;
+}
+
+/// Blocks that a call has listed. (Memory that nothing was written to isn't touched.)
+struct listed_blocks {
+    /// Asks with so much room at first, and again where there are more.
+    template <class Call> listed_blocks(std::size_t room, Call call) : first(new block[room]) {
+        std::uint32_t code = call(first.get(), room, &count);
+        if (code == OCTOFIX_SMALL_BUFFER) {
+            first.reset(new block[count]);
+            code = call(first.get(), count, &count);
+        }
+        check(code);
+    }
+    listed_blocks() = default;
+
+    std::unique_ptr<block[]> first;
+    std::size_t count = 0;
+};
+
+/// How many leaves a map of so many bytes may have: one takes more than eight of most maps.
+inline std::size_t most_leaves(std::uint64_t bytes) {
+    return static_cast<std::size_t>(bytes / 8 + 1);
 }
 
 } // namespace detail

@@ -268,6 +268,21 @@ void try_refusals() {
     EXPECT(world.scan(octofix::pose_at(0, 0, 0), {}).hits == 0);
 }
 
+void try_copies() {
+    octofix::map world(0.1);
+    world.track();
+    world.set(metres(1, 2, 3), 700, true);
+    octofix::map copy = world.copy();
+    EXPECT(copy.settings().is_stale && copy.settings().is_tracked);
+    EXPECT(copy.memory() == world.memory());
+    EXPECT(copy.changes().size() == 1);
+    copy.set(metres(1, 2, 3), 5);
+    EXPECT(world.get(metres(1, 2, 3)) == 700 && copy.get(metres(1, 2, 3)) == 5);
+    world = std::move(copy);
+    EXPECT(world.get(metres(1, 2, 3)) == 5);
+    EXPECT(code_of([&] { return copy.copy(); }) == OCTOFIX_CLOSED);
+}
+
 void try_files(const std::filesystem::path &folder) {
     octofix::map world(0.1), other(0.1);
     world.set(metres(1, 2, 3), 700);
@@ -577,6 +592,7 @@ int main(int, char **words) {
     try_turns();
     try_far_points();
     try_refusals();
+    try_copies();
     try_files(words[1]);
     try_grid();
     try_voxels();

@@ -40,7 +40,7 @@ int main(int, char **words) {
     const std::string wanted = "refused 34 FileTooLarge count 1073741825";
     int failed = 0;
     failed += refusal_of([&] { return world.snapshot(); }) != wanted;
-    failed += refusal_of([&] { return world.copy(); }) != wanted;
+    failed += refusal_of([&] { return world.copy(); }) != ""; // (which needs no snapshot)
     failed += refusal_of([&] { world.snapshot_to(kept); }) != wanted;
     failed += octofix::detail::read_file(kept) != octofix::bytes{1, 2, 3};
     failed += std::string(octofix::refused(34).hint()).find("2^30") == std::string::npos;
