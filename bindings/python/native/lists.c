@@ -1,6 +1,7 @@
 /* Lists of what a map has, each an array, and other questions about all of it. */
 #include "native.h"
 
+#include <stdlib.h>
 #include <string.h>
 
 /* The bytes of a list before a call says how many it takes. (Those that aren't written cost
@@ -63,6 +64,30 @@ static PyObject *rows_of(map *self, listing *it, PyObject *kind, size_t size) {
     }
 }
 
+/* Leaves, by one walk: one takes more than eight bytes of most maps, so that they have room in an
+ * eighth as many blocks as the map has bytes. (Those that aren't written cost nothing.) */
+static PyObject *leaves_at_once(map *self, listing *it) {
+    uint64_t bytes = 0;
+    uint32_t code;
+    void *rows;
+    if (take_reading(self) < 0) return NULL;
+    library.memory(&self->handle, &bytes); /* (that the map is closed is told by the list) */
+    give_reading(self);
+    const size_t size = sizeof(octofix_block), room = bytes / 8 + 1;
+    void *found = room * size > FIRST_BYTES ? malloc(room * size) : NULL;
+    if (!found) return rows_of(self, it, python.block, size);
+    const int failed = list_into(self, it, found, room, &code);
+    PyObject *made = NULL;
+    if (!failed && code == OCTOFIX_SMALL_BUFFER)
+        made = rows_of(self, it, python.block, size);
+    else if (!failed && code != OCTOFIX_DONE)
+        made = fail(code, it->named);
+    else if (!failed && (made = new_array(PyLong_FromSize_t(it->count), python.block, &rows)))
+        memcpy(rows, found, it->count * size);
+    free(found);
+    return made;
+}
+
 static PyObject *map_list(map *self, PyObject *args) {
     PyObject *low, *high, *depth;
     listing it = {.call = list_rows};
@@ -77,7 +102,7 @@ static PyObject *map_leaves(map *self, PyObject *args) {
     if (!PyArg_ParseTuple(args, "I|OO", &it.number, &low, &high)) return NULL;
     if (high) it.call = leaves_of_in_rows;
     if (high && take_corners(&it.low, low, high) < 0) return NULL;
-    return rows_of(self, &it, python.block, sizeof(octofix_block));
+    return leaves_at_once(self, &it);
 }
 
 /* The cells, and how many there are in a row. */

@@ -62,6 +62,26 @@ static PyObject *map_close(map *self, PyObject *Py_UNUSED(none)) {
     Py_RETURN_NONE;
 }
 
+/* A map of the same class that is equal in all, without what a class of a program has set. (While
+ * the GIL is given away nobody sees the handle of the copy.) */
+static PyObject *map_copied(map *self, PyObject *Py_UNUSED(none)) {
+    octofix_map copy = {0};
+    PyObject *made = map_new(Py_TYPE(self), NULL, NULL);
+    if (!made || take_reading(self) < 0) {
+        Py_XDECREF(made);
+        return NULL;
+    }
+    PyThreadState *gil = give_gil(true);
+    const uint32_t code = library.copy(&self->handle, &copy);
+    take_gil(gil);
+    ((map *)made)->handle = copy;
+    ((map *)made)->edge = self->edge;
+    give_reading(self);
+    if (code == OCTOFIX_DONE) return made;
+    Py_DECREF(made);
+    return fail(code, NO_DETAILS);
+}
+
 static PyObject *map_closed(map *self, void *Py_UNUSED(none)) {
     return PyBool_FromLong(!self->handle.is_open);
 }
@@ -73,6 +93,7 @@ static PyObject *map_resolution_nm(map *self, void *Py_UNUSED(none)) {
 static const PyMethodDef own_methods[] = {
     PRIVATE(open, METH_VARARGS),
     PRIVATE(hold, METH_VARARGS),
+    PRIVATE(copied, METH_NOARGS),
     PLAIN(close, METH_NOARGS,
           "close($self)\n--\n\n"
           "Gives the map's memory back, once the calls of other threads are done.\n\n"

@@ -111,12 +111,15 @@ class Map(native.Map):
         return f"<octofix.{type(self).__name__} of {self.resolution} m{', closed' * self.closed}>"
 
     def copy(self: _Map) -> _Map:
-        """A map with the same values, log-odds, limits and box of `limit`.
+        """A map of its own that is equal in all: values, log-odds, limits, the box of `limit`,
+        staleness, and the mark with what has changed since."""
+        made = self._copied()
+        state = self.__getstate__()
+        if state:
+            made.__setstate__(state)
+        return made
 
-        It isn't stale, and has no mark.
-        """
-        return copy.copy(self)
-
+    __copy__ = copy
     clone = copy  # (what C++ calls it)
 
     def equals(self, other: Map) -> bool:
@@ -128,9 +131,9 @@ class Map(native.Map):
         return self.resolution_nm == other.resolution_nm and np.array_equal(mine, theirs)
 
     def __deepcopy__(self: _Map, memo: dict[int, Any]) -> _Map:
-        rebuild, arguments, state = self.__reduce__()
-        made: _Map = rebuild(*arguments)
+        made = self._copied()
         memo[id(self)] = made
+        state = self.__getstate__()
         if state:
             made.__setstate__(copy.deepcopy(state, memo))
         return made
@@ -466,7 +469,7 @@ def _sought(kind: str) -> int:
 
 
 def _rebuilt(kind: type[_Map], resolution: float, limits: Limits, snapshot: bytes) -> _Map:
-    """The map of a snapshot, for copies."""
+    """The map of a snapshot, for pickles."""
     made = kind.__new__(kind)
     Map.__init__(made, resolution, **limits._asdict())
     made.load_snapshot(snapshot)
