@@ -27,6 +27,7 @@ ghost use Rattle.oct_map.specs.Answers.{most_noted, limit_answer, scan_answer, g
 ghost use Rattle.oct_map.specs.Answers.{IsAnswerOrMemory};
 ghost use Rattle.oct_map.specs.Outcome.{corner_events, corner_need, corner_box, corner_volume};
 ghost use Rattle.oct_map.specs.Outcome.{hit_event, miss_event};
+ghost use Rattle.oct_map.specs.Memory.{HasRunOut};
 ghost use Rattle.oct_map.specs.Notes.{LacksNotes, NotesFew};
 ghost use Rattle.oct_map.specs.Marks.{KeepsMark};
 ghost use Rattle.oct_map.specs.Lists.{list_answer};
@@ -292,7 +293,8 @@ impl OccMap {
     /// A scan is refused before any voxel changes: first for its own fault, and then as full where
     /// the groups that the values need and those that the scan may need are more than the limit.
     /// The map prunes itself only where its own groups and those are. A lazy scan leaves inner
-    /// values and pruning to a later refresh.
+    /// values and pruning to a later refresh. Memory runs out before anything changes, or where
+    /// there is room for the scan: no full map tells it once it has pruned itself.
     pub fn scan(&mut self, scan: &Scan, lazy: bool) -> Result<ScanDone, MapFault>
         requires points { All IsInReach scan.now.points }
         requires range { IfSome scan.now.range (λ r. (pos 0 ≤ℤ r) × (r <ℤ pos (10 ^ 16))) }
@@ -301,6 +303,8 @@ impl OccMap {
             (sighting_of scan.now)) result }
         ensures memory { result ≡ Err MapFault.Memory
             → TakesMemory self.old.tree.res (sighting_of scan.now) self.old.max_cells }
+        ensures room { result ≡ Err MapFault.Memory
+            → HasRunOut self.old self.new (sighting_of scan.now) }
         ensures edited { OnOk result (IsMapEdited self.old self.new
             (outcome_in self.old (sighting_of scan.now))
             (scan_need self.old (sighting_of scan.now)) lazy) }

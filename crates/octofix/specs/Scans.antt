@@ -9,6 +9,7 @@ use Rattle.oct_map.specs.Answers.{scan_answer, IsAnswerOrMemory}
 use Rattle.oct_map.specs.Edits.{IsMapEdited, IsMapRefused, ReservesFew, outcome_in, scan_need}
 use Rattle.oct_map.specs.Map.{Map, IsMap, ground_of, values_of}
 use Rattle.oct_map.specs.Marks.{KeepsMark}
+use Rattle.oct_map.specs.Memory.{HasRunOut}
 use Rattle.oct_map.specs.Notes.{NotesFew}
 use Rattle.oct_map.specs.declared.done.ScanDone.{ScanDone}
 use Rattle.oct_map.specs.declared.fault.MapFault.{MapFault}
@@ -48,6 +49,7 @@ pub record IsMapScan (s : Sighting) (lazy : Bool) (m n : Map) (done : Result Sca
     : Type 0 where
   pub answer : IsAnswerOrMemory (scan_answer (ground_of m) (values_of m) s) done
   pub memory : done ≡ Err fault.Memory → TakesMemory m.tree.res s m.max_cells
+  pub room : done ≡ Err fault.Memory → HasRunOut m n s
   pub edited : OnOk done (IsMapEdited m n (outcome_in m s) (scan_need m s) lazy)
   pub refused : IfErr done (λ fault. IsMapRefused m n fault (scan_need m s))
   pub reserved : ReservesFew m n (scan_need m s)

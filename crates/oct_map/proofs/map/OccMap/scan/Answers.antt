@@ -1,5 +1,5 @@
 use Rattle.std.proofs.Common.{◌≡◌, ◌+◌, ◌||◌, ◌≤◌, length, Err, refl, sym, subst, ap, ◌∙◌, arith}
-use Rattle.std.proofs.Common.{rules, ℤ, SFits, w32, to_z, of_z, to_z-of_z}
+use Rattle.std.proofs.Common.{inl, inr, rules, ℤ, SFits, w32, to_z, of_z, to_z-of_z}
 use Rattle.oct_odds.specs.declared.event.Event.{Event}
 use Rattle.oct_odds.specs.declared.event.Event.TheVariants.{Add}
 use Rattle.oct_values.specs.Events.{Events}
@@ -24,9 +24,9 @@ use Rattle.oct_map.proofs.Edits.{handed_as, map_edited, edited_map, edited_reser
 use Rattle.oct_map.proofs.Edits.{refused_room, refused_notes, remarked}
 use Rattle.oct_map.proofs.Marks.{marked_edit, marked_room, readied_mark, noted_few}
 use Rattle.oct_map.proofs.Marks.{same_few, few_after, scan_asked, asked_scan, reserved_remarked}
-use Rattle.oct_map.proofs.Marks.{lacks_notes, lacks_some}
+use Rattle.oct_map.proofs.Marks.{lacks_notes, lacks_some, room_ok}
 use Rattle.oct_map.proofs.Scans.{IsPrepared, accepted_in, prepared, room_for, made_few, event_back}
-use Rattle.oct_map.proofs.Scans.{listed_point, same_need_in}
+use Rattle.oct_map.proofs.Scans.{listed_point, same_need_in, ran_out}
 use Rattle.oct_map.proofs.map.OccMap.scan.Goals.{After-from, After-reserve}
 use Rattle.oct_map.proofs.map.OccMap.scan.Goals as goal
 
@@ -118,6 +118,28 @@ readied : (c : After-reserve) → IsReadied c.args.self.now (room_made c) c.from
 readied c =
     subst (λ (m : Map). IsReadied c.args.self.now m c.from.result) (sym c.self-2.view_is)
     c.make_room.ensures.readied
+
+-- as many voxels are hit and freed as the scan hits and frees in the map
+tallied : (c : After-reserve) → c.hit_count.result + c.free_count.result
+    ≡ hit_count c.args.self.now.tree.res c.args.self.now.update_box (sighting_of c.args.scan.now)
+    + free_count c.args.self.now.tree.res c.args.self.now.update_box (sighting_of c.args.scan.now)
+tallied c =
+    let edge : c.res.result ≡ c.args.self.now.tree.res = c.res.ensures
+    ∙ ap (λ (m : Map). m.tree.res) c.self.view_is in
+    let box : c.window-window.result ≡ c.args.self.now.update_box = search rules in
+    let hit : c.hit_count.result
+    ≡ hit_count c.args.self.now.tree.res c.args.self.now.update_box (sighting_of c.args.scan.now) =
+    c.hit_count.ensures ∙ c.in_ok-set.ensures.made.hits_counted
+    ∙ c.in_ok-set.ensures.outcome.hits_counted
+    ∙ ap (λ r. hit_count r c.window-window.result (sighting_of c.args.scan.now)) edge
+    ∙ ap (λ w. hit_count c.args.self.now.tree.res w (sighting_of c.args.scan.now)) box in
+    let free : c.free_count.result
+    ≡ free_count c.args.self.now.tree.res c.args.self.now.update_box (sighting_of c.args.scan.now) =
+    c.free_count.ensures ∙ c.in_ok-set.ensures.made.frees_counted
+    ∙ c.in_ok-set.ensures.outcome.frees_counted
+    ∙ ap (λ r. free_count r c.window-window.result (sighting_of c.args.scan.now)) edge
+    ∙ ap (λ w. free_count c.args.self.now.tree.res w (sighting_of c.args.scan.now)) box in
+    omega (arith, hit, free)
 
 pub returns-in_err-make_room-clause-refused : goal.returns-in_err-make_room-clause-refused
 returns-in_err-make_room-clause-refused c =
@@ -356,3 +378,26 @@ returns-in_err-reserve-clause-memory c _ =
           (ap (λ (m : Map). m.max_cells) c.self.view_is) c.in_ok-set.ensures.accepted,
       point,
     )
+
+pub returns-in_err-make_room-clause-room : goal.returns-in_err-make_room-clause-room
+returns-in_err-make_room-clause-room c e =
+    let (room, few) = c.make_room.ensures.memory
+    (handed_as _ _ _ _ c.in_err-make_room.was c.from_residual-in_err-make_room.ensures.1 e) in
+    inr (ran_out c.args.self.now (sighting_of c.args.scan.now) c.from.result _ _
+    (counted (goal.at.returns-in_err-make_room-clause-room c).After-from) refl
+    (accepted_in c.args.self.now (sighting_of c.args.scan.now) c.res.result _
+    (c.res.ensures ∙ ap (λ (m : Map). m.tree.res) c.self.view_is)
+    (ap (λ (m : Map). m.max_cells) c.self.view_is) c.in_ok-set.ensures.accepted) room (inl few))
+
+pub returns-in_err-reserve-clause-room : goal.returns-in_err-reserve-clause-room
+returns-in_err-reserve-clause-room c _ =
+    let r = (goal.at.returns-in_err-reserve-clause-room c).After-reserve in
+    let need = counted (goal.at.returns-in_err-reserve-clause-room c).After-from in
+    let lacks = lacks_notes c.args.self.now.mark c.self-2.inside.mark
+    (c.hit_count.result + c.free_count.result) c.reserve.result (readied r).notes
+    c.in_err-reserve.was (λ room. (c.reserve.ensures.enough room).0) in
+    inr (ran_out c.args.self.now (sighting_of c.args.scan.now) c.from.result _ _ need (tallied r)
+    (accepted_in c.args.self.now (sighting_of c.args.scan.now) c.res.result _
+    (c.res.ensures ∙ ap (λ (m : Map). m.tree.res) c.self.view_is)
+    (ap (λ (m : Map). m.max_cells) c.self.view_is) c.in_ok-set.ensures.accepted)
+    (room_ok _ c.in_ok-make_room.ensures.answer) (inr lacks))
