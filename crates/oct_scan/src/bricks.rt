@@ -10,8 +10,8 @@ ghost use Rattle.oct_scan.specs.Gathered.{HoldCodes};
 ghost use Rattle.oct_scan.specs.Update.{listed, IsSettled, IsMadeOfBricks, IsUpdateOf, IsOutcomeOf};
 ghost use Rattle.oct_scan.specs.Update.{IsWithinLimit, IsRefusal};
 
-use crate::cells::gather;
 use crate::fault::ScanFault;
+use crate::gather::gather;
 use crate::judge::judged_beams;
 use crate::need::count_blocks;
 use crate::scan::Scan;

@@ -52,11 +52,11 @@
 
 mod beam;
 mod bricks;
-mod cells;
 mod code_box;
 mod density;
 mod entry;
 mod fault;
+mod gather;
 mod judge;
 mod laws;
 mod need;
