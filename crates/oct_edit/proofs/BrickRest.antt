@@ -1,24 +1,27 @@
 -- Whether a value takes something from the events of a brick.
-use Rattle.std.proofs.Common.{◌≡◌, ℕ, ◌^◌, ◌<◌, ◌↔◌, Bool, true, false, [], ◌∷◌, map, inl, inr}
+use Rattle.std.proofs.Common.{◌≡◌, ℕ, ℤ, List, Bool, true, false, [], ◌∷◌, map, inl, inr}
 use Rattle.std.proofs.Common.{refl, sym, subst, ◌∙◌, ap}
 use Rattle.std.specs.Prelude.{IsTrue, IsSome, is_some, nat_eq}
 use Rattle.std.specs.Bool.{OnFalse}
 use Rattle.std.proofs.lemmas.Bool.{false≢true}
 use Rattle.std.proofs.lemmas.Bool.Decides.{eqb_tells}
+use Rattle.std.proofs.lemmas.Int.{to_z-of_z}
+use mir.Syntax.{w32}
+use mir.Val.{SFits, to_z, of_z}
 use Rattle.oct_key.specs.Voxel.{Voxel, IsInMap}
 use Rattle.oct_odds.specs.Odds.{Odds}
 use Rattle.oct_odds.specs.Update.{Value}
-use Rattle.oct_odds.specs.declared.event.Event.{Event}
+use Rattle.oct_odds.specs.declared.event.Event.TheVariants.{Add}
 use Rattle.oct_values.specs.Events.{is_listed}
 use Rattle.oct_brick.specs.declared.brick.Brick.{Brick}
 use Rattle.oct_brick.specs.Voxels.{coded_voxel}
-use Rattle.oct_brick.proofs.Lists.{contains_none, contains_here, contains_cases, all_contained}
+use Rattle.oct_brick.proofs.Lists.{contains_none, contains_cases, all_contained}
 use Rattle.oct_brick.proofs.BrickCodes.{codes_by}
-use Rattle.oct_edit.specs.Listed.{ListedUpdate}
+use Rattle.oct_edit.specs.Listed.{ListedUpdate, update_of}
 use Rattle.oct_edit.specs.Saturated.{IsSaturated}
 use Rattle.oct_edit.specs.Scan.{events_of, AreDisjoint}
-use Rattle.oct_edit.proofs.BrickParts.{none_by, some_by}
-use Rattle.oct_edit.proofs.Expansions.{on_false, TakesSome}
+use Rattle.oct_edit.proofs.BrickParts.{none_by}
+use Rattle.oct_edit.proofs.Expansions.{TakesSome}
 use Rattle.oct_edit.proofs.Shares.{case_of, is_hit, is_freed, is_left, none_not_some, hit_event}
 use Rattle.oct_edit.proofs.Shares.{miss_event}
 use Rattle.oct_edit.proofs.UpdateEnds.{saturated_known}
@@ -37,20 +40,13 @@ rests_none f b n is h = elim (eqb_tells n 0) [
   | inr p ↦ absurd (false≢true (sym p.0 ∙ h))
 ]
 
-pub moved_some : (f : Brick → ℕ) (b : Brick) (n : ℕ) (o : Odds) (event : Event) (value : Value)
-    {test : Bool}
-    → n ≡ f b → n < 2 ^ 64 → IsTrue test ↔ IsSaturated o event value → test ≡ false
-    → OnFalse (nat_eq n 0)
-    ((k : Voxel) × IsInMap k × (is_listed (map coded_voxel (codes_by f (b ∷ []))) k ≡ true)
-    × (IsSaturated o event value → ⊥))
-moved_some f b n o event value is fits tells fails = on_false (nat_eq n 0) (λ e.
-    let r =
-    some_by f (b ∷ []) b (contains_here b []) (λ z. differs n e (is ∙ z))
-    (subst (λ m. m < 2 ^ 64) is fits) in
-    (r.0, r.1, r.2, λ s. false≢true (sym fails ∙ tells.1 s)))
-  where
-    differs : (n : ℕ) → nat_eq n 0 ≡ false → n ≡ 0 → ⊥
-    differs n e z = elim (eqb_tells n 0) [ inl p ↦ false≢true (sym e ∙ p.0) | inr p ↦ p.1 z ]
+-- events of the machine's numbers are those of the numbers
+pub same_update : (bricks : List Brick) (hit miss : ℤ) → SFits w32 hit → SFits w32 miss
+    → update_of bricks (Add (to_z w32 (of_z w32 hit))) (Add (to_z w32 (of_z w32 miss)))
+    ≡ update_of bricks (Add hit) (Add miss)
+same_update bricks hit miss h m =
+    ap (λ a. update_of bricks (Add a) (Add (to_z w32 (of_z w32 miss)))) (to_z-of_z w32 hit h)
+    ∙ ap (λ a. update_of bricks (Add hit) (Add a)) (to_z-of_z w32 miss m)
 
 -- what follows from what a failed test says
 pub on_false_then : {X Y : Type 0} (test : Bool) → (X → Y) → OnFalse test X → OnFalse test Y

@@ -21,6 +21,7 @@ ghost use Rattle.oct_tree.specs.Shape.{IsWellFormed};
 ghost use Rattle.oct_edit.specs.Saturated.{IsSaturated, TakesFrom};
 ghost use Rattle.oct_edit.specs.Edits.{IsEdited, IsEagerEdit, IsLazyEdit, IsTidyAlong};
 ghost use Rattle.oct_edit.specs.Steps.{IsTouched};
+ghost use Rattle.oct_edit.specs.Listed.{update_of};
 ghost use Rattle.oct_edit.specs.Parts.{IsUpdateIn, IsAtRest, IsFirstChild, need_in};
 ghost use Rattle.oct_edit.specs.Scan.{events_of, AreDisjoint};
 ghost use Rattle.oct_edit.specs.Bricks.{listed, listed_one, brick_child, event_of_bit, CanApply};
@@ -119,7 +120,8 @@ fn touch_within(tree: &mut OccTree, p: Place, depth: u8, update: ScanUpdate, laz
         }
         return;
     }
-    if update.is_at_rest(tree, p) {
+    let (hit, miss) = (Event::Add(update.hit), Event::Add(update.miss));
+    if is_at_rest(tree, p, update.bricks, hit, miss) {
         return;
     }
     let id = enter(tree, p);
@@ -141,7 +143,7 @@ fn touch_brick(tree: &mut OccTree, p: Place, update: BrickUpdate, lazy: bool)
         plant_brick(tree, p, update, value);
         return;
     }
-    if update.is_at_rest(tree, p) {
+    if is_at_rest(tree, p, &[update.brick], update.hit, update.miss) {
         return;
     }
     let id = enter(tree, p);
@@ -184,7 +186,7 @@ fn touch_octet(tree: &mut OccTree, p: Place, update: BrickUpdate, lazy: bool)
         plant_octet(tree, p, update, value);
         return;
     }
-    if update.is_at_rest(tree, p) {
+    if is_at_rest(tree, p, &[update.brick], update.hit, update.miss) {
         return;
     }
     let id = enter(tree, p);
@@ -325,48 +327,6 @@ impl BrickUpdate {
             apply_at(tree, p, self.miss);
         }
     }
-
-    /// Whether the value that the place gives its voxels takes nothing from the events.
-    fn is_at_rest(&self, tree: &OccTree, p: Place) -> bool
-        requires place { IsPlace tree.now p }
-        requires brick { IsBrick self.now.brick }
-        requires apart { AreDisjoint (listed_one self.now).hits (listed_one self.now).frees }
-        requires some { (k : Voxel) × IsInMap k × IsSome (events_of (listed_one self.now) k) }
-        ensures rests { IsTrue result →
-            IsAtRest tree.now.odds (listed_one self.now) (value_of (node_in tree.now p)) }
-        ensures bounds { tree.now.odds.min ≤ℤ tree.now.odds.max }
-        ensures takes { OnFalse result ((k : Voxel) × IsInMap k
-            × TakesFrom tree.now.odds (events_of (listed_one self.now))
-            (λ _. value_of (node_in tree.now p)) k) }
-    {
-        let value = tree.node(p).value();
-        let odds = tree.odds();
-        value.is_some() && self.hits_rest(odds, value) && self.misses_rest(odds, value)
-    }
-
-    /// Whether no voxel is hit, or the value takes nothing from a hit.
-    fn hits_rest(&self, odds: OddsModel, value: Option<i32>) -> bool
-        requires { IsBrick self.now.brick }
-        ensures rests { IsTrue result →
-            ((listed_one self.now).hits ≡ []) ⊎ IsSaturated (odds_of odds) self.now.hit value }
-        ensures moved { OnFalse result ((k : Voxel) × IsInMap k ×
-            (is_listed (listed_one self.now).hits k ≡ true) ×
-            (IsSaturated (odds_of odds) self.now.hit value → ⊥)) }
-    {
-        stays(odds, self.hit, value) || self.brick.hits == 0
-    }
-
-    /// Whether no voxel is freed, or the value takes nothing from a miss.
-    fn misses_rest(&self, odds: OddsModel, value: Option<i32>) -> bool
-        requires { IsBrick self.now.brick }
-        ensures rests { IsTrue result →
-            ((listed_one self.now).frees ≡ []) ⊎ IsSaturated (odds_of odds) self.now.miss value }
-        ensures moved { OnFalse result ((k : Voxel) × IsInMap k ×
-            (is_listed (listed_one self.now).frees k ≡ true) ×
-            (IsSaturated (odds_of odds) self.now.miss value → ⊥)) }
-    {
-        stays(odds, self.miss, value) || self.brick.frees() == 0
-    }
 }
 
 impl<'a> ScanUpdate<'a> {
@@ -381,50 +341,6 @@ impl<'a> ScanUpdate<'a> {
             hit: Event::Add(self.hit),
             miss: Event::Add(self.miss),
         }
-    }
-
-    /// Whether the value that the place gives its voxels takes nothing from the events.
-    fn is_at_rest(&self, tree: &OccTree, p: Place) -> bool
-        requires place { IsPlace tree.now p }
-        requires bricks { All IsBrick self.now.bricks.now }
-        requires apart { AreDisjoint (listed self.now).hits (listed self.now).frees }
-        requires some { (k : Voxel) × IsInMap k × IsSome (events_of (listed self.now) k) }
-        ensures rests { IsTrue result →
-            IsAtRest tree.now.odds (listed self.now) (value_of (node_in tree.now p)) }
-        ensures bounds { tree.now.odds.min ≤ℤ tree.now.odds.max }
-        ensures takes { OnFalse result ((k : Voxel) × IsInMap k
-            × TakesFrom tree.now.odds (events_of (listed self.now))
-            (λ _. value_of (node_in tree.now p)) k) }
-    {
-        let value = tree.node(p).value();
-        let odds = tree.odds();
-        value.is_some() && self.hits_rest(odds, value) && self.misses_rest(odds, value)
-    }
-
-    /// Whether no voxel is hit, or the value takes nothing from a hit.
-    fn hits_rest(&self, odds: OddsModel, value: Option<i32>) -> bool
-        requires { All IsBrick self.now.bricks.now }
-        ensures rests { IsTrue result →
-            ((listed self.now).hits ≡ []) ⊎
-            IsSaturated (odds_of odds) (Event.Add self.now.hit) value }
-        ensures moved { OnFalse result ((k : Voxel) × IsInMap k ×
-            (is_listed (listed self.now).hits k ≡ true) ×
-            (IsSaturated (odds_of odds) (Event.Add self.now.hit) value → ⊥)) }
-    {
-        stays(odds, Event::Add(self.hit), value) || !has_hits(self.bricks)
-    }
-
-    /// Whether no voxel is freed, or the value takes nothing from a miss.
-    fn misses_rest(&self, odds: OddsModel, value: Option<i32>) -> bool
-        requires { All IsBrick self.now.bricks.now }
-        ensures rests { IsTrue result →
-            ((listed self.now).frees ≡ []) ⊎
-            IsSaturated (odds_of odds) (Event.Add self.now.miss) value }
-        ensures moved { OnFalse result ((k : Voxel) × IsInMap k ×
-            (is_listed (listed self.now).frees k ≡ true) ×
-            (IsSaturated (odds_of odds) (Event.Add self.now.miss) value → ⊥)) }
-    {
-        stays(odds, Event::Add(self.miss), value) || !has_frees(self.bricks)
     }
 
     /// The child with the first brick, where all bricks lie in one block of that depth.
@@ -501,7 +417,55 @@ fn count_front(bricks: &[Brick], depth: u8, i: u8) -> usize
     count
 }
 
+/// Whether the value that the place gives its voxels takes nothing from the events of these bricks:
+/// the first one on each voxel that is hit, and the other one on each that is freed.
+#[inline(always)]
+fn is_at_rest(tree: &OccTree, p: Place, bricks: &[Brick], hit: Event, miss: Event) -> bool
+    requires place { IsPlace tree.now p }
+    requires bricks { All IsBrick bricks.now }
+    requires apart { AreDisjoint (hit_voxels bricks.now) (freed_voxels bricks.now) }
+    requires some { (k : Voxel) × IsInMap k
+        × IsSome (events_of (update_of bricks.now hit miss) k) }
+    ensures rests { IsTrue result →
+        IsAtRest tree.now.odds (update_of bricks.now hit miss) (value_of (node_in tree.now p)) }
+    ensures bounds { tree.now.odds.min ≤ℤ tree.now.odds.max }
+    ensures takes { OnFalse result ((k : Voxel) × IsInMap k
+        × TakesFrom tree.now.odds (events_of (update_of bricks.now hit miss))
+        (λ _. value_of (node_in tree.now p)) k) }
+{
+    let value = tree.node(p).value();
+    let odds = tree.odds();
+    value.is_some() && hits_rest(odds, bricks, hit, value) && misses_rest(odds, bricks, miss, value)
+}
+
+/// Whether no voxel is hit, or the value takes nothing from a hit.
+#[inline(always)]
+fn hits_rest(odds: OddsModel, bricks: &[Brick], hit: Event, value: Option<i32>) -> bool
+    requires { All IsBrick bricks.now }
+    ensures rests { IsTrue result →
+        (hit_voxels bricks.now ≡ []) ⊎ IsSaturated (odds_of odds) hit value }
+    ensures moved { OnFalse result ((k : Voxel) × IsInMap k ×
+        (is_listed (hit_voxels bricks.now) k ≡ true) ×
+        (IsSaturated (odds_of odds) hit value → ⊥)) }
+{
+    stays(odds, hit, value) || !has_hits(bricks)
+}
+
+/// Whether no voxel is freed, or the value takes nothing from a miss.
+#[inline(always)]
+fn misses_rest(odds: OddsModel, bricks: &[Brick], miss: Event, value: Option<i32>) -> bool
+    requires { All IsBrick bricks.now }
+    ensures rests { IsTrue result →
+        (freed_voxels bricks.now ≡ []) ⊎ IsSaturated (odds_of odds) miss value }
+    ensures moved { OnFalse result ((k : Voxel) × IsInMap k ×
+        (is_listed (freed_voxels bricks.now) k ≡ true) ×
+        (IsSaturated (odds_of odds) miss value → ⊥)) }
+{
+    stays(odds, miss, value) || !has_frees(bricks)
+}
+
 /// Whether some voxel of the bricks is hit.
+#[inline(always)]
 fn has_hits(bricks: &[Brick]) -> bool
     requires { All IsBrick bricks.now }
     ensures none { OnFalse result (hit_voxels bricks.now ≡ []) }
@@ -517,6 +481,7 @@ fn has_hits(bricks: &[Brick]) -> bool
 }
 
 /// Whether some voxel of the bricks is freed.
+#[inline(always)]
 fn has_frees(bricks: &[Brick]) -> bool
     requires { All IsBrick bricks.now }
     ensures none { OnFalse result (freed_voxels bricks.now ≡ []) }

@@ -1,6 +1,10 @@
 use Rattle.std.proofs.Common.{◌≡◌, ◌+◌, ◌<◌, ◌≤◌, [], refl, sym, subst, ◌∙◌, ap, arith, rules}
 use Rattle.std.specs.List.{All}
+use Rattle.std.specs.Prelude.{IsSome}
 use Rattle.std.proofs.lemmas.List.Elements.{All-head}
+use mir.Syntax.{w32}
+use mir.Val.{SFits}
+use Rattle.oct_key.specs.Voxel.{Voxel, IsInMap}
 use Rattle.oct_key.specs.Block.{child_of}
 use Rattle.oct_key.proofs.Blocks.{depth_child_of}
 use Rattle.oct_tree.specs.declared.place.Place.TheVariants.{Slot}
@@ -8,12 +12,16 @@ use Rattle.oct_tree.proofs.Paths.{place_block}
 use Rattle.oct_odds.specs.Update.{IsSmallEvent}
 use Rattle.oct_odds.specs.declared.event.Event.TheVariants.{Add}
 use Rattle.oct_arena.specs.Entries.{spare}
+use Rattle.oct_arena.specs.Nodes.{value_of}
+use Rattle.oct_tree.specs.Tree.{node_in}
 use Rattle.oct_brick.specs.Bricks.{IsBrick, frees_of}
 use Rattle.oct_brick.specs.Voxels.{hit_voxels, freed_voxels}
 use Rattle.oct_edit.specs.Steps.{IsTouched}
 use Rattle.oct_edit.specs.Scan.{events_of}
-use Rattle.oct_edit.specs.Parts.{IsUpdateIn, IsFirstChild, need_in}
+use Rattle.oct_edit.specs.Parts.{IsAtRest, IsUpdateIn, IsFirstChild, need_in}
 use Rattle.oct_edit.specs.Bricks.{listed, listed_one, AreAlike, AreCut}
+use Rattle.oct_edit.proofs.BrickRest.{same_update}
+use Rattle.oct_edit.proofs.Expansions.{TakesSome}
 use Rattle.oct_edit.proofs.Needs.{place_in_map}
 use Rattle.oct_edit.proofs.UpdateEnds.{rest_touched}
 use Rattle.oct_edit.proofs.BrickParts.{cut_parted}
@@ -83,14 +91,23 @@ pub is_at_rest-requires-clause-some : goal.is_at_rest-requires-clause-some
 is_at_rest-requires-clause-some t c =
     let (b, e) = place_block c.args.tree.now c.args.p c.requires.place in
     let some = (c.requires.inside b e).some in
+    let hit : SFits w32 c.args.update.hit = search rules in
+    let miss : SFits w32 c.args.update.miss = search rules in
+    subst (λ u. (k : Voxel) × IsInMap k × IsSome (events_of u k))
+    (sym (same_update c.args.update.bricks.now c.args.update.hit c.args.update.miss hit miss))
     (some.voxel, some.in_map, some.event)
 
 pub returns-then-is_at_rest-clause-touched : goal.returns-then-is_at_rest-clause-touched
 returns-then-is_at_rest-clause-touched t c b e =
     let deep = c.requires.depth b e in
+    let hit : SFits w32 c.args.update.hit = search rules in
+    let miss : SFits w32 c.args.update.miss = search rules in
     rest_touched c.args.tree.now c.args.p b (listed c.args.update) c.args.lazy c.requires.linked
     c.requires.place e (omega (arith, deep, c.requires.deep)) (c.requires.inside b e)
-    c.if-is_at_rest.ensures.bounds (c.if-is_at_rest.ensures.rests refl)
+    c.if-is_at_rest.ensures.bounds
+    (subst (λ u. IsAtRest c.args.tree.now.odds u (value_of (node_in c.args.tree.now c.args.p)))
+    (same_update c.args.update.bricks.now c.args.update.hit c.args.update.miss hit miss)
+    (c.if-is_at_rest.ensures.rests refl))
 
 pub enter-id-requires-clause-room : goal.enter-id-requires-clause-room
 enter-id-requires-clause-room t c none =
@@ -323,11 +340,16 @@ close-requires-clause-inner t c =
 pub returns-clause-touched : goal.returns-clause-touched
 returns-clause-touched t c b e =
     let deep : b.depth ≡ c.args.depth = c.requires.depth b e in
+    let hit : SFits w32 c.args.update.hit = search rules in
+    let miss : SFits w32 c.args.update.miss = search rules in
     let way = c.loop-i.invariant.way b e in
     way_end c.args.tree.now c.enter-id.new.tree c.loop-i.tree c.close.new.tree c.args.p b
     c.enter-id.result (listed c.args.update) (listed c.loop-i.rest) c.args.lazy c.requires.linked
     c.requires.place e (omega (arith, deep, c.requires.deep, c.if-depth-eq-BRICK_DEPTH.false))
-    (c.requires.inside b e) c.if-is_at_rest.ensures.takes (c.enter-id.ensures b e) way
+    (c.requires.inside b e)
+    (subst (λ u. TakesSome c.args.tree.now.odds u (value_of (node_in c.args.tree.now c.args.p)))
+    (same_update c.args.update.bricks.now c.args.update.hit c.args.update.miss hit miss)
+    c.if-is_at_rest.ensures.takes) (c.enter-id.ensures b e) way
     (ap hit_voxels c.in_default-first_child.ensures.none)
     (ap freed_voxels c.in_default-first_child.ensures.none) (c.close.ensures b way.done.block)
 
