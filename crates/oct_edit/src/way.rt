@@ -5,20 +5,18 @@
 
 ghost use Rattle.std.specs.Prelude.{◌≡◌, ◌+◌, ◌≤◌, IsTrue, IsSome, Some, length, replicate};
 ghost use Rattle.oct_key.specs.Block.{Cube, block_of};
-ghost use Rattle.oct_odds.specs.Update.{IsSmallEvent};
 ghost use Rattle.oct_values.specs.Events.{event_at};
 ghost use Rattle.oct_arena.specs.Entries.{spare};
 ghost use Rattle.oct_arena.specs.Nodes.{link_of, value_of};
 ghost use Rattle.oct_tree.specs.Tree.{IsLinked, IsPlace, node_in, block_in, value_at};
 ghost use Rattle.oct_tree.specs.Shape.{IsFresh, IsPruned};
-ghost use Rattle.oct_edit.specs.Saturated.{TakesFrom};
 ghost use Rattle.oct_edit.specs.Steps.{HasRoom, IsTouched, IsClosed};
+ghost use Rattle.oct_edit.specs.Touch.{IsTaken};
 ghost use Rattle.oct_edit.specs.Way.{IsWholeWay, KeepsGreatest, place_on};
 
-use crate::voxel::{close, is_same_value, touch_under};
+use crate::voxel::{VoxelEdit, WayEnd, close, is_same_value, touch_under};
 use oct_arena::{GroupId, Node};
 use oct_key::{Key, child_of_code, morton};
-use oct_odds::Event;
 use oct_tree::{Descent, OccTree, Place};
 
 /// The groups from the root down to a voxel.
@@ -86,29 +84,20 @@ impl Way {
     /// In a tidy tree, one that is fresh and pruned, they are closed from below until a node stays
     /// as it was, or a group keeps its greatest value.
     #[inline(always)]
-    pub(crate) fn touch(
-        &self,
-        tree: &mut OccTree,
-        k: Key,
-        node: Node,
-        event: Event,
-        lazy: bool,
-        tidy: bool,
-    )
-        requires way { IsWholeWay tree.old k self.now.groups self.now.depth }
-        requires node { node ≡ node_in tree.old (place_on k self.now.groups self.now.depth) }
+    pub(crate) fn touch(&self, tree: &mut OccTree, node: Node, edit: VoxelEdit, tidy: bool)
+        requires way { IsWholeWay tree.old edit.k self.now.groups self.now.depth }
+        requires node { node ≡ node_in tree.old (place_on edit.k self.now.groups self.now.depth) }
         requires linked { IsLinked tree.old }
-        requires room { HasRoom tree.old k 0 }
-        requires small { IsSmallEvent event }
-        requires takes { TakesFrom tree.old.odds (event_at (Some k) event) (value_at tree.old) k }
+        requires room { HasRoom tree.old edit.k 0 }
+        requires taken { IsTaken tree.old edit }
         requires tidy { IsTrue tidy → IsFresh tree.old × IsPruned tree.old }
-        ensures touched { IsTouched tree.old tree.new (block_of 0 k) (event_at (Some k) event)
-            lazy }
+        ensures touched { IsTouched tree.old tree.new (block_of 0 edit.k)
+            (event_at (Some edit.k) edit.event) edit.lazy }
         ensures spare { spare tree.old.groups ≤ spare tree.new.groups + 16 }
     {
         let mut depth = self.depth;
-        let p = self.place(k, depth);
-        touch_under(tree, p, node, depth, k, event, lazy);
+        let p = self.place(edit.k, depth);
+        touch_under(tree, WayEnd { p, node, depth }, edit);
         let mut before = node;
         let mut now = tree.node(p);
         while depth > 0 {
@@ -116,13 +105,13 @@ impl Way {
                 return;
             }
             depth -= 1;
-            let q = self.place(k, depth);
+            let q = self.place(edit.k, depth);
             let over = tree.node(q);
             if tidy && keeps_greatest(over, before, now) {
                 return;
             }
             before = over;
-            now = close_over(tree, q, over, lazy);
+            now = close_over(tree, q, over, edit.lazy);
         }
     }
 }

@@ -11,33 +11,37 @@ use Rattle.oct_edit.proofs.OneVoxel.{at_root, takes_here}
 use Rattle.oct_edit.proofs.Wholes.{whole_known}
 use Rattle.oct_edit.proofs.voxel.touch_along.Goals as goal
 
-pub touch-requires-clause-takes : goal.touch-requires-clause-takes
-touch-requires-clause-takes c =
-    let v : IsInMap c.args.k = search rules in
-    let same : c.value.result ≡ value_at c.args.tree.now c.args.k =
+pub touch-requires-clause-taken : goal.touch-requires-clause-taken
+touch-requires-clause-taken c =
+    let v : IsInMap c.args.edit.k = search rules in
+    let same : c.value.result ≡ value_at c.args.tree.now c.args.edit.k =
     c.value.ensures.exact ∙ c.descend-node.ensures.value in
-    takes_here c.args.tree.now c.args.k c.args.event
-    (λ full. false≢true (c.if-is_saturated.ensures.saturated.1
-    (subst (IsSaturated c.args.tree.now.odds c.args.event) (sym same) full)))
+    record {
+      voxel = v;
+      small = c.requires.small;
+      takes = takes_here c.args.tree.now c.args.edit.k c.args.edit.event
+          (λ full. false≢true (c.if-is_saturated.ensures.saturated.1
+          (subst (IsSaturated c.args.tree.now.odds c.args.edit.event) (sym same) full)));
+    }
 
 pub note_eager-requires : goal.note_eager-requires
 note_eager-requires c eager =
-    let v : IsInMap c.args.k = search rules in
+    let v : IsInMap c.args.edit.k = search rules in
     let whole =
-    at_root c.args.tree.now c.touch.new.tree c.args.k c.args.event c.args.lazy v
+    at_root c.args.tree.now c.touch.new.tree c.args.edit.k c.args.edit.event c.args.edit.lazy v
     c.touch.ensures.touched in
-    whole_known c.args.tree.now c.touch.new.tree (event_at (Some c.args.k) c.args.event)
-    c.args.lazy c.tidiness-known.result whole eager c.tidiness-known.ensures.so
+    whole_known c.args.tree.now c.touch.new.tree (event_at (Some c.args.edit.k) c.args.edit.event)
+    c.args.edit.lazy c.tidiness-known.result whole eager c.tidiness-known.ensures.so
 
 pub returns-then-is_saturated : goal.returns-then-is_saturated
 returns-then-is_saturated c =
-    let v : IsInMap c.args.k = search rules in
-    let same : c.value.result ≡ value_at c.args.tree.now c.args.k =
+    let v : IsInMap c.args.edit.k = search rules in
+    let same : c.value.result ≡ value_at c.args.tree.now c.args.edit.k =
     c.value.ensures.exact ∙ c.descend-node.ensures.value in
     record {
       done = inl (record {
         bounds = c.if-is_saturated.ensures.bounds;
-        full = subst (IsSaturated c.args.tree.now.odds c.args.event) same
+        full = subst (IsSaturated c.args.tree.now.odds c.args.edit.event) same
             (c.if-is_saturated.ensures.saturated.0 refl);
         same = refl;
       });
@@ -45,15 +49,15 @@ returns-then-is_saturated c =
 
 pub returns : goal.returns
 returns c =
-    let v : IsInMap c.args.k = search rules in
-    let same : c.value.result ≡ value_at c.args.tree.now c.args.k =
+    let v : IsInMap c.args.edit.k = search rules in
+    let same : c.value.result ≡ value_at c.args.tree.now c.args.edit.k =
     c.value.ensures.exact ∙ c.descend-node.ensures.value in
     record {
       done = inr (record {
         takes = λ full. false≢true (c.if-is_saturated.ensures.saturated.1
-            (subst (IsSaturated c.args.tree.now.odds c.args.event) (sym same) full));
-        touched = subst (λ u. IsTouched c.args.tree.now u (block_of 0 c.args.k)
-            (event_at (Some c.args.k) c.args.event) c.args.lazy) (sym c.note_eager.ensures)
+            (subst (IsSaturated c.args.tree.now.odds c.args.edit.event) (sym same) full));
+        touched = subst (λ u. IsTouched c.args.tree.now u (block_of 0 c.args.edit.k)
+            (event_at (Some c.args.edit.k) c.args.edit.event) c.args.edit.lazy) (sym c.note_eager.ensures)
             c.touch.ensures.touched;
         spare = (let before = c.touch.ensures.spare in
             let kept = ap (λ u. spare u.groups) c.note_eager.ensures in

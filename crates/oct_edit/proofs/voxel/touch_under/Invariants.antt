@@ -5,10 +5,10 @@ use Rattle.oct_edit.proofs.voxel.touch_under.Given as goal
 
 abbrev pub invariant-loop-level : goal.invariant-loop-level
 invariant-loop-level l = record {
-  low : l.fn.depth ≤ l.level;
+  low : l.fn.end.depth ≤ l.level;
   high : l.level ≤ 16;
-  chain : IsChain l.fn.tree l.tree l.fn.k l.fn.event l.fn.lazy (node_in l.fn.tree l.fn.p) l.over
-      l.fn.depth l.q l.level;
+  chain : IsChain l.fn.tree l.tree l.fn.edit.k l.fn.edit.event l.fn.edit.lazy (node_in l.fn.tree l.fn.end.p) l.over
+      l.fn.end.depth l.q l.level;
 }
 
 abbrev pub decreases-loop-level : goal.decreases-loop-level
