@@ -46,7 +46,8 @@ use Rattle.oct_map.specs.Edits.{fitted_groups, entries_of}
 use Rattle.oct_map.specs.Marks.{classes_in, KeepsMark, SameMark}
 use Rattle.oct_map.specs.Notes.{HasMarked, HasRoomForNotes, IsNotedBehind, IsSameNoted, LacksNotes}
 use Rattle.oct_map.specs.Notes.{NotesFew, marked_by_notes}
-use Rattle.oct_map.specs.Merges.{IsInGiven, IsMergedInto, IsMergeRefused, IsMergeReserved}
+use Rattle.oct_map.specs.Merges.{HasMerged, IsInGiven, IsMergedInto, IsMergeRefused}
+use Rattle.oct_map.specs.Merges.{IsMergeReserved, merged_values}
 use Rattle.oct_map.specs.Merges.{IsPrunedAtMost, IsWide, given_events, given_volume}
 use Rattle.oct_map.specs.Merges.{is_parted_by, more_groups, note_answer, union_answer}
 use Rattle.oct_map.proofs.Rooms.{fitted_own, fitted_least}
@@ -199,6 +200,17 @@ pruned_refused m p n fault need to pruned h =
       full = λ groups more e. (let (least, shrunk) = h.full groups more e in
           (least, shrunk_on m.tree p.tree n.tree to.shrunk shrunk));
     }
+
+-- the three together
+pub has_merged : (rule : Rule) (m o n : Map) (done : Result ⊤ MapFault)
+    → OnOk done (SameValues (merged_values rule (values_of m) (values_of o)) (values_of n))
+    → OnOk done (IsMergedInto rule m o n) → IsPruned n.tree → OnOk done (HasMerged rule m o n)
+has_merged rule m o n (Ok ok) merged edited pruned = record {
+  merged = merged;
+  edited = edited;
+  pruned = pruned;
+}
+has_merged rule m o n (Err fault) merged edited pruned = tt
 
 -- what is done after pruning is done of the first map
 pub merged_into : (rule : Rule) (m o p q n : Map) (need : ℕ) (r : Result ⊤ MapFault)

@@ -1,6 +1,7 @@
 -- What a merge of another map makes of a map.
-use Rattle.std.specs.Prelude.{◌≡◌, ℕ, ◌+◌, ◌≤◌, nat_lt, Bool, true, false, ◌&&◌, not, ⊤, ◌⊎◌}
-use Rattle.std.specs.Prelude.{Option, Some, None, Result, Ok, Err, count_by, if◌then◌else◌}
+use Rattle.std.specs.Prelude.{◌≡◌, ℕ, ◌+◌, ◌<◌, ◌≤◌, nat_lt, Bool, true, false, ◌&&◌, not, ⊤}
+use Rattle.std.specs.Prelude.{◌⊎◌, Option, Some, None, is_some, Result, Ok, Err, IsOk, OnOk}
+use Rattle.std.specs.Prelude.{count_by, if◌then◌else◌}
 use Rattle.oct_key.specs.Boxes.{IsInBox, Window, box_volume}
 use Rattle.oct_key.specs.Voxel.{Voxel, IsInMap}
 use Rattle.oct_key.specs.Block.{Cube}
@@ -21,11 +22,12 @@ use Rattle.oct_query.specs.declared.sought.Sought.TheVariants.{Known}
 use Rattle.oct_merge.specs.Merged.{merge_event, merged}
 use Rattle.oct_merge.specs.declared.rule.Rule.{Rule}
 use Rattle.oct_map.specs.declared.fault.MapFault.{MapFault}
-use Rattle.oct_map.specs.declared.fault.MapFault.TheVariants.{Full, WideWhileTracked}
-use Rattle.oct_map.specs.Map.{Map, values_of}
-use Rattle.oct_map.specs.Answers.{most_noted, room_answer}
+use Rattle.oct_map.specs.declared.fault.MapFault.TheVariants.{Full, Memory, WideWhileTracked}
+use Rattle.oct_map.specs.Map.{Map, IsMap, ground_of, values_of}
+use Rattle.oct_map.specs.Answers.{IsAnswerOrMemory, most_noted, room_answer}
 use Rattle.oct_map.specs.Edits.{KeepsAllElse, entries_of}
-use Rattle.oct_map.specs.Marks.{classes_in}
+use Rattle.oct_map.specs.Marks.{KeepsMark, classes_in}
+use Rattle.oct_map.specs.Notes.{LacksNotes, NotesFew}
 
 -- the value of each voxel in the merged map
 abbrev pub merged_values : Rule → Values → Values → Values
@@ -131,3 +133,40 @@ pub record IsMergeReserved (m n : Map) (w : Values) : Type 0 where
   pub few : (entries_of n ≡ entries_of m)
       ⊎ ((entries_of n ≤ group_count (values_of m) + more_groups (values_of m) w + 1023)
       × (entries_of n ≤ m.max_groups + 1023))
+
+-- What a merge of the map o answers: by the least box around what o knows where a mark stands, and
+-- by the groups that the values of both need. Memory runs out only where neither refuses it, and
+-- where some is taken.
+pub record IsMergeAnswered (m o : Map) (done : Result ⊤ MapFault) : Type 0 where
+  pub answer : (extent : Option Window) → IsKnownBox o extent → IsAnswerOrMemory
+      (merge_answer (is_some m.mark) extent m.max_groups (values_of m) (values_of o)) done
+  pub memory : done ≡ Err Memory
+      → IsOk (union_answer m.max_groups (values_of m) (values_of o))
+      × ((entries_of m < group_count (values_of m) + more_groups (values_of m) (values_of o))
+      ⊎ ((extent : Option Window) → IsKnownBox o extent
+      → LacksNotes m.mark (given_volume extent)))
+  pub narrow : done ≡ Err Memory → (extent : Option Window) → IsKnownBox o extent
+      → IsOk (note_answer (is_some m.mark) extent)
+
+-- what a merge of the map o that is done makes of a map
+pub record HasMerged (rule : Rule) (m o n : Map) : Type 0 where
+  pub merged : SameValues (merged_values rule (values_of m) (values_of o)) (values_of n)
+  pub edited : IsMergedInto rule m o n
+  pub pruned : IsPruned n.tree
+
+-- what each merge of the map o keeps of a map, done or refused: the stale flag, what a mark says of
+-- classes, the box, the limits, and entries as far as they serve
+pub record IsKeptByMerge (m o n : Map) : Type 0 where
+  pub reserved : IsMergeReserved m n (values_of o)
+  pub stale : n.is_stale ≡ m.is_stale
+  pub mark : KeepsMark m n
+  pub noted : (extent : Option Window) → IsKnownBox o extent
+      → NotesFew m.mark n.mark (given_events extent) (given_volume extent)
+  pub setup : ground_of n ≡ ground_of m
+  pub map : IsMap n
+
+-- what it leaves of the map o: it is pruned, where that came to pass
+pub record IsLeftByMerge (o p : Map) (done : Result ⊤ MapFault) : Type 0 where
+  pub kept : IsPrunedAtMost o p
+  pub pruned : OnOk done (IsPruned p.tree)
+  pub map : IsMap p

@@ -1,25 +1,15 @@
 -- What a merge of the maps of two handles does.
-use Rattle.std.specs.Prelude.{◌≡◌, ◌==◌, ℕ, ◌+◌, ◌<◌, ◌⊎◌, ◌&&◌, nat_eq, pos, Bool, is_some}
+use Rattle.std.specs.Prelude.{◌≡◌, ◌==◌, ℕ, ◌&&◌, nat_eq, pos, Bool, if◌then◌else◌, ⊤}
+use Rattle.std.specs.Prelude.{Option, Some, None, Result, Ok, Err, OnOk, IfErr}
 use Rattle.std.specs.Ordering.{int_eq}
-use Rattle.std.specs.Prelude.{if◌then◌else◌, ⊤, Option, Some, None, Result, Ok, Err, IsOk, OnOk}
-use Rattle.std.specs.Prelude.{IfErr}
-use Rattle.oct_key.specs.Boxes.{Window}
-use Rattle.oct_key.specs.Values.{SameValues}
-use Rattle.oct_map.specs.Answers.{IsAnswerOrMemory}
-use Rattle.oct_map.specs.Edits.{entries_of}
-use Rattle.oct_map.specs.Map.{Map, IsMap, ground_of, values_of}
-use Rattle.oct_map.specs.Marks.{KeepsMark}
-use Rattle.oct_map.specs.Merges.{IsKnownBox, IsMergedInto, IsMergeRefused, IsMergeReserved}
-use Rattle.oct_map.specs.Merges.{IsPrunedAtMost, given_events, given_volume, merge_answer}
-use Rattle.oct_map.specs.Merges.{merged_values, more_groups, note_answer, union_answer}
-use Rattle.oct_map.specs.Notes.{LacksNotes, NotesFew}
+use Rattle.oct_map.specs.Map.{Map}
+use Rattle.oct_map.specs.Merges.{HasMerged, IsKeptByMerge, IsLeftByMerge, IsMergeAnswered}
+use Rattle.oct_map.specs.Merges.{IsMergeRefused}
 use Rattle.oct_map.specs.declared.fault.MapFault.{MapFault}
 use Rattle.oct_map.specs.declared.fault.MapFault.TheVariants as fault
 use Rattle.oct_merge.specs.declared.rule.Rule.{Rule}
 use Rattle.oct_merge.specs.declared.rule.Rule.TheVariants.{First, Greatest, Least}
 use Rattle.oct_odds.specs.Odds.{Odds}
-use Rattle.oct_tree.specs.Shape.{IsPruned}
-use Rattle.oct_values.specs.Counts.{group_count}
 use Rattle.octofix.specs.Codes.{answer_code, answer_details, of_map}
 use Rattle.octofix.specs.HandleLends.{open_with}
 use Rattle.octofix.specs.Handles.{Handle}
@@ -48,31 +38,12 @@ alike_answer m o =
 
 -- What a merge of the map o, which p is left of, makes of a map: all that the map says of it.
 pub record IsMapMerge (rule : Rule) (m o n p : Map) (done : Result ⊤ MapFault) : Type 0 where
-  pub answer : (extent : Option Window) → IsKnownBox o extent → IsAnswerOrMemory
-      (merge_answer (is_some m.mark) extent m.max_groups (values_of m) (values_of o)) done
-  pub memory : done ≡ Err fault.Memory
-      → IsOk (union_answer m.max_groups (values_of m) (values_of o))
-      × ((entries_of m < group_count (values_of m) + more_groups (values_of m) (values_of o))
-      ⊎ ((extent : Option Window) → IsKnownBox o extent
-      → LacksNotes m.mark (given_volume extent)))
-  pub narrow : done ≡ Err fault.Memory → (extent : Option Window) → IsKnownBox o extent
-      → IsOk (note_answer (is_some m.mark) extent)
-  pub merged : OnOk done
-      (SameValues (merged_values rule (values_of m) (values_of o)) (values_of n))
-  pub edited : OnOk done (IsMergedInto rule m o n)
-  pub pruned : OnOk done (IsPruned n.tree)
+  pub answered : IsMergeAnswered m o done
+  pub done : OnOk done (HasMerged rule m o n)
   pub refused : IfErr done (IsMergeRefused m n)
-  pub faulty : (count : ℕ) → done ≡ Err (fault.WideWhileTracked count) → (n ≡ m) × (p ≡ o)
-  pub reserved : IsMergeReserved m n (values_of o)
-  pub stale : n.is_stale ≡ m.is_stale
-  pub mark : KeepsMark m n
-  pub noted : (extent : Option Window) → IsKnownBox o extent
-      → NotesFew m.mark n.mark (given_events extent) (given_volume extent)
-  pub other : IsPrunedAtMost o p
-  pub other_pruned : OnOk done (IsPruned p.tree)
-  pub ground : ground_of n ≡ ground_of m
-  pub map : IsMap n
-  pub other_map : IsMap p
+  pub wide : (count : ℕ) → done ≡ Err (fault.WideWhileTracked count) → (n ≡ m) × (p ≡ o)
+  pub kept : IsKeptByMerge m o n
+  pub other : IsLeftByMerge o p done
 
 -- two maps are refused, and stay, or else they are merged
 abbrev pub MergeBy : Result ⊤ Refusal → Rule → Map → Map → Map → Map → Result ⊤ Refusal → Type 0

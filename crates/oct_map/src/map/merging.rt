@@ -1,23 +1,20 @@
 //! One map merged into another.
-ghost use Rattle.std.specs.Prelude.{◌≡◌, ℕ, ◌+◌, ◌<◌, ◌⊎◌, Bool, Option, false, Err, IsOk};
-ghost use Rattle.std.specs.Prelude.{OnOk, OnErr, IfOk, IfErr, IsSome, IsTrue, is_some};
+ghost use Rattle.std.specs.Prelude.{◌≡◌, ℕ, ◌⊎◌, Option, false, Err, OnOk, IfOk, IfErr, IsOk};
+ghost use Rattle.std.specs.Prelude.{IsSome, IsTrue, is_some};
 ghost use Rattle.oct_key.specs.Boxes.{Window};
 ghost use Rattle.oct_key.specs.Values.{SameValues};
 ghost use Rattle.oct_key.specs.Voxel.{Voxel, IsInMap};
-ghost use Rattle.oct_values.specs.Counts.{group_count};
 ghost use Rattle.oct_tree.specs.Shape.{IsPruned};
 ghost use Rattle.oct_merge.specs.Merged.{merge_events};
 ghost use Rattle.oct_map.specs.declared.fault.MapFault.{MapFault};
 ghost use Rattle.oct_map.specs.Answers.{IsAnswerOrMemory};
 ghost use Rattle.oct_map.specs.Edits.{IsMapEdited, IsMapRefused, LacksEntries, ReservesFew};
-ghost use Rattle.oct_map.specs.Edits.{entries_of};
 ghost use Rattle.oct_map.specs.Marks.{KeepsMark};
 ghost use Rattle.oct_map.specs.Notes.{LacksNotes, NotesFew};
-ghost use Rattle.oct_map.specs.Merges.{IsInGiven, IsKnownBox, IsMergedInto, IsMergeRefused};
-ghost use Rattle.oct_map.specs.Merges.{IsMergeReserved};
-ghost use Rattle.oct_map.specs.Merges.{IsPrunedAtMost, IsWide, given_events, given_volume};
-ghost use Rattle.oct_map.specs.Merges.{merge_answer, merged_values, more_groups, note_answer};
-ghost use Rattle.oct_map.specs.Merges.{union_answer};
+ghost use Rattle.oct_map.specs.Merges.{HasMerged, IsKeptByMerge, IsLeftByMerge, IsMergeAnswered};
+ghost use Rattle.oct_map.specs.Merges.{IsMergeRefused, IsInGiven, IsKnownBox, IsWide};
+ghost use Rattle.oct_map.specs.Merges.{given_events, given_volume, merged_values, more_groups};
+ghost use Rattle.oct_map.specs.Merges.{note_answer, union_answer};
 
 use super::{MOST_NOTED, OccMap};
 use crate::fault::MapFault;
@@ -40,35 +37,13 @@ impl OccMap {
     pub fn merge(&mut self, other: &mut OccMap, rule: Rule) -> Result<(), MapFault>
         requires res { self.old.tree.res ≡ other.old.tree.res }
         requires odds { self.old.tree.odds ≡ other.old.tree.odds }
-        ensures answer { (extent : Option Window) → IsKnownBox other.old extent → IsAnswerOrMemory
-            (merge_answer (is_some self.old.mark) extent self.old.max_groups (values_of self.old)
-            (values_of other.old)) result }
-        ensures memory { result ≡ Err MapFault.Memory
-            → IsOk (union_answer self.old.max_groups (values_of self.old) (values_of other.old))
-            × ((entries_of self.old < group_count (values_of self.old)
-            + more_groups (values_of self.old) (values_of other.old))
-            ⊎ ((extent : Option Window) → IsKnownBox other.old extent
-            → LacksNotes self.old.mark (given_volume extent))) }
-        ensures narrow { result ≡ Err MapFault.Memory → (extent : Option Window)
-            → IsKnownBox other.old extent → IsOk (note_answer (is_some self.old.mark) extent) }
-        ensures merged { OnOk result (SameValues
-            (merged_values rule (values_of self.old) (values_of other.old))
-            (values_of self.new)) }
-        ensures edited { OnOk result (IsMergedInto rule self.old other.old self.new) }
-        ensures pruned { OnOk result (IsPruned self.new.tree) }
+        ensures answered { IsMergeAnswered self.old other.old result }
+        ensures done { OnOk result (HasMerged rule self.old other.old self.new) }
         ensures refused { IfErr result (IsMergeRefused self.old self.new) }
-        ensures faulty { (count : ℕ) → result ≡ Err (MapFault.WideWhileTracked count)
+        ensures wide { (count : ℕ) → result ≡ Err (MapFault.WideWhileTracked count)
             → (self.new ≡ self.old) × (other.new ≡ other.old) }
-        ensures reserved { IsMergeReserved self.old self.new (values_of other.old) }
-        ensures stale { self.new.is_stale ≡ self.old.is_stale }
-        ensures mark { KeepsMark self.old self.new }
-        ensures noted { (extent : Option Window) → IsKnownBox other.old extent
-            → NotesFew self.old.mark self.new.mark (given_events extent) (given_volume extent) }
-        ensures other { IsPrunedAtMost other.old other.new }
-        ensures other_pruned { OnOk result (IsPruned other.new.tree) }
-        ensures setup { ground_of self.new ≡ ground_of self.old }
-        ensures map { IsMap self.new }
-        ensures other_map { IsMap other.new }
+        ensures kept { IsKeptByMerge self.old other.old self.new }
+        ensures other { IsLeftByMerge other.old other.new result }
     {
         let noted = self.box_to_note(other)?;
         self.prune();

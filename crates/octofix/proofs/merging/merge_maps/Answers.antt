@@ -10,23 +10,12 @@ use Rattle.octofix.proofs.merging.merge_maps.Goals as goal
 said : (c : After-merge) → IsMapMerge c.args.rule c.args.map.now c.args.other.now
     c.merge.new.self c.merge.new.other c.merge.result
 said c = record {
-  answer = c.merge.ensures.answer;
-  memory = c.merge.ensures.memory;
-  narrow = c.merge.ensures.narrow;
-  merged = c.merge.ensures.merged;
-  edited = c.merge.ensures.edited;
-  pruned = c.merge.ensures.pruned;
+  answered = c.merge.ensures.answered;
+  done = c.merge.ensures.done;
   refused = c.merge.ensures.refused;
-  faulty = c.merge.ensures.faulty;
-  reserved = c.merge.ensures.reserved;
-  stale = c.merge.ensures.stale;
-  mark = c.merge.ensures.mark;
-  noted = c.merge.ensures.noted;
+  wide = c.merge.ensures.wide;
+  kept = c.merge.ensures.kept;
   other = c.merge.ensures.other;
-  other_pruned = c.merge.ensures.other_pruned;
-  ground = c.merge.ensures.setup;
-  map = c.merge.ensures.map;
-  other_map = c.merge.ensures.other_map;
 }
 
 pub returns : goal.returns
