@@ -104,6 +104,12 @@ static void list_leaves(octofix_map *map) {
     if (octofix_leaves(map, blocks, room, &count) != OCTOFIX_DONE) exit(1);
 }
 
+static void copy(octofix_map *map) {
+    octofix_map other = {0};
+    if (octofix_copy(map, &other) != OCTOFIX_DONE) exit(1);
+    octofix_close(&other);
+}
+
 static void say_times(octofix_map *map) {
     uint32_t draw = 1;
     for (size_t i = 0; i < ASKED; i++) {
@@ -123,6 +129,7 @@ static void say_times(octofix_map *map) {
     printf("get %.1f\n", 1e9 * least(get_whole, map) / ASKED);
     printf("get_all %.1f\n", 1e9 * least(get_all, map) / ASKED);
     printf("leaves %.2f\n", 1e3 * least(list_leaves, map) * 500000 / (double)counts.nodes);
+    printf("copy %.2f\n", 1e3 * least(copy, map) * 500000 / (double)counts.nodes);
     printf("nodes %" PRIu64 " leaves %zu\n", counts.nodes, room);
     free(blocks);
 }

@@ -1,7 +1,7 @@
 #!/bin/sh
 # Measures calls of the library, and fails where a limit is exceeded: what a get takes beside its
-# walk through the tree, a get of many points, the leaves of 500,000 nodes, and an empty map, in
-# nanoseconds, milliseconds and bytes; and the instructions of scans of 2,000 points, against those
+# walk through the tree, a get of many points, the leaves of 500,000 nodes, a copy of as many, and an
+# empty map, in nanoseconds, milliseconds and bytes; and the instructions of scans of 2,000 points, against those
 # of a session that does the same without reading the script.
 #
 #     bench/library_speed.sh [--program FILE] [--library FOLDER]
@@ -14,6 +14,7 @@ set -eu
 most_get=200        # nanoseconds
 most_get_all=100    # nanoseconds a point
 most_leaves=15      # milliseconds
+most_copy=15        # milliseconds
 most_empty=4096     # bytes
 most_scan=1.02      # times the session
 
@@ -52,6 +53,7 @@ echo "a map of $(number nodes) nodes"
 expect 'nanoseconds of a get beside its walk' "$(number get)" "$most_get"
 expect 'nanoseconds a point of get_all' "$(number get_all)" "$most_get_all"
 expect 'milliseconds of the leaves of 500,000 nodes' "$(number leaves)" "$most_leaves"
+expect 'milliseconds of a copy of 500,000 nodes' "$(number copy)" "$most_copy"
 expect 'bytes of an empty map' "$(number empty)" "$most_empty"
 
 session=$(instructions "$program" session 0.05 <"$folder/few")
