@@ -1,13 +1,13 @@
 #!/bin/sh
 # Measures calls of the library, and fails where a limit is exceeded: what a get takes beside its
-# walk through the tree, a get of many points, the leaves of 500,000 nodes, a copy of as many, and an
-# empty map, in nanoseconds, milliseconds and bytes; and the instructions of scans of 2,000 points, against those
-# of a session that does the same without reading the script.
+# walk through the tree, a get of many points, the leaves of 500,000 nodes, a copy of as many, and
+# an empty map, in nanoseconds, milliseconds and bytes; and the instructions of scans of 2,000
+# points, against those of a session that does the same without reading the script.
 #
 #     bench/library_speed.sh [--program FILE] [--library FOLDER]
 #
-# Both have to be proved builds, since others check at run time. Needs gcc and valgrind. The times are the least of seven
-# runs, and stand on a machine that does nothing else.
+# Both have to be proved builds, since others check at run time. Needs gcc and valgrind. The times
+# are the least of seven runs, and stand on a machine that does nothing else.
 
 set -eu
 
