@@ -1,7 +1,7 @@
-//! The tests of [`oct_script`] and [`oct_session`]: lines, commands, names and a reply; the map that
-//! is lent to a session after each way in which a script can end, replies that are held, a fault at
-//! each call of the world, and the names of the statuses. What lines and scripts are answered is told
-//! by the rows of `tests/rows`.
+//! The tests of [`oct_script`] and [`oct_session`]: lines, commands, names and a reply; the map
+//! that is lent to a session after each way in which a script can end, and after a prune; replies
+//! that are held, a fault at each call of the world, and the names of the statuses. What lines and
+//! scripts are answered is told by the rows of `tests/rows`.
 //!
 //! They compare the definitions with examples worked out by hand, and show that calls succeed while
 //! there is memory, which no clause can say. They call public functions alone. `rt test` in this

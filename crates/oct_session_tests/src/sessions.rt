@@ -161,6 +161,28 @@ fn the_lent_map_stands_for_the_lines_before_a_fault(rt: HostRuntime) -> Result<(
     Ok(())
 }
 
+/// Eight voxels that are hit lazily, in a group of their own below fifteen others, and a prune.
+const PRUNED: &str = "hit 0 0 0 lazy\nhit 0.1 0 0 lazy\nhit 0 0.1 0 lazy\nhit 0.1 0.1 0 lazy\n\
+    hit 0 0 0.1 lazy\nhit 0.1 0 0.1 lazy\nhit 0 0.1 0.1 lazy\nhit 0.1 0.1 0.1 lazy\nprune\n";
+
+/// Expects that this script of at most this many bytes leaves a tree of so many groups.
+fn expect_groups(rt: &impl Abort, alloc: Global, max_bytes: u64, want: u32) -> Result<(), Fail>
+    requires { max_bytes ≤ 2 ^ 40 }
+{
+    let mut source = script(alloc, PRUNED, 100)?;
+    let mut sink = MemorySink::new(alloc, 100);
+    let (_, map) = ended_alone(alloc, max_bytes, &mut source, &mut sink)?;
+    assert_eq!(rt; map.tree().arena().live(), want);
+    Ok(())
+}
+
+#[test]
+fn prune_gives_back_the_group_of_eight_equal_voxels(rt: HostRuntime) -> Result<(), Fail> {
+    // One byte less, and the last line is left out.
+    expect_groups(&rt, rt.alloc(), 149, 16)?;
+    expect_groups(&rt, rt.alloc(), 150, 15)
+}
+
 /// The statuses, their numbers and their names.
 const STATUSES: &[(Status, u8, &str)] = &[
     (Status::Done, 0, "done"),

@@ -30,9 +30,17 @@ fn expect_group(rt: &impl Abort, arena: &NodeArena, id: GroupId, home: Block, no
 {
     assert_eq!(rt; arena.home(id), home);
     let group = arena.group(id);
-    for i in 0u8..8 {
-        assert_eq!(rt; group.node(i), nodes[i as usize]);
-    }
+    let found = [
+        group.node(0),
+        group.node(1),
+        group.node(2),
+        group.node(3),
+        group.node(4),
+        group.node(5),
+        group.node(6),
+        group.node(7),
+    ];
+    assert_eq!(rt; found, nodes);
 }
 
 #[test]

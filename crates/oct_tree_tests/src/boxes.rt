@@ -29,7 +29,7 @@ pub(crate) fn world(alloc: Global, room: u32) -> Result<OccTree, Fail>
 }
 
 /// The need of a box, once it is seen that its corners are in order.
-pub(crate) fn need(rt: &impl Abort, lo: Key, hi: Key) -> u128
+fn need(rt: &impl Abort, lo: Key, hi: Key) -> u128
     ensures order { IsBox lo hi }
     ensures exact { result ≡ boxes.box_need lo hi }
 {

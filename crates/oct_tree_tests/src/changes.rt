@@ -1,13 +1,11 @@
-//! Reports of single edits, scans and boxes, and the room that is made for notes.
+//! Reports of notes, and the room that is made for them.
 
-use crate::leaves::{leaf, two_children, unknown_world};
-use oct_arena::Node;
-use oct_brick::Brick;
+use crate::leaves::two_children;
 use oct_change::{Change, Changes, Kind};
 use oct_key::Key;
 use oct_num::Memory;
 use oct_odds::Class;
-use oct_tree::{OccTree, Place};
+use oct_tree::OccTree;
 use std::alloc::Global;
 use std::process::Abort;
 use std::test::Fail;
@@ -40,16 +38,6 @@ fn note_all(changes: &mut Changes, rows: &[(u16, u16, u16, Class)]) -> Result<()
     for (x, y, z, before) in rows {
         note(changes, key(*x, *y, *z), *before)?;
     }
-    Ok(())
-}
-
-/// Notes the classes that three voxels have in the tree, in room that is made for all of them.
-fn note_classes(changes: &mut Changes, tree: &OccTree, voxels: [Key; 3]) -> Result<(), Fail> {
-    let [first, second, third] = voxels;
-    changes.reserve(3)?;
-    changes.note_class(tree, first);
-    changes.note_class(tree, second);
-    changes.note_class(tree, third);
     Ok(())
 }
 
@@ -141,99 +129,5 @@ fn first_notes_stay_where_they_are_compacted(rt: HostRuntime) -> Result<(), Fail
     expect_len(&rt, &changes, 9);
     expect_room(&rt, &mut changes, 9, 9);
     expect_report(&rt, &changes, &tree, &wanted());
-    Ok(())
-}
-
-/// The changes where all voxels become occupied, and three were noted before.
-fn all_new() -> [Change; 3] {
-    [
-        change(7, 6, 8, Kind::New),
-        change(7, 7, 6, Kind::New),
-        change(7, 7, 7, Kind::New),
-    ]
-}
-
-#[test]
-fn notes_what_stands_before_a_change(rt: HostRuntime) -> Result<(), Fail> {
-    let mut tree = unknown_world(rt.alloc())?;
-    let mut changes = Changes::new(rt.alloc());
-    note_classes(
-        &mut changes,
-        &tree,
-        [key(7, 7, 7), key(7, 7, 6), key(7, 6, 8)],
-    )?;
-    tree.set_place(Place::Root, leaf(tree.odds(), 850));
-    expect_report(&rt, &changes, &tree, &all_new());
-
-    // A change that is undone is none.
-    tree.set_place(Place::Root, Node::Absent);
-    expect_report(&rt, &changes, &tree, &[]);
-    Ok(())
-}
-
-/// Notes the voxels of the brick at the origin, given as those that change and those that are hit
-/// of them, in room that is made for them.
-fn note_brick(
-    rt: &impl Abort,
-    changes: &mut Changes,
-    tree: &OccTree,
-    scanned: u64,
-    hits: u64,
-) -> Result<(), Fail> {
-    assert!(rt; scanned > 0);
-    let brick = Brick {
-        code: 3_848_290_697_216,
-        scanned,
-        hits: scanned & hits,
-    };
-    changes.reserve(128)?;
-    changes.note_bricks(tree, &[brick]);
-    Ok(())
-}
-
-/// The changes where all voxels become occupied, and the first two of the brick were noted before.
-fn two_new() -> [Change; 2] {
-    [
-        change(32_768, 32_768, 32_768, Kind::New),
-        change(32_769, 32_768, 32_768, Kind::New),
-    ]
-}
-
-#[test]
-fn notes_what_a_scan_hits_and_frees(rt: HostRuntime) -> Result<(), Fail> {
-    let mut tree = unknown_world(rt.alloc())?;
-    let mut changes = Changes::new(rt.alloc());
-    note_brick(&rt, &mut changes, &tree, 0b11, 0b10)?;
-    expect_len(&rt, &changes, 2);
-    tree.set_place(Place::Root, leaf(tree.odds(), 850));
-    expect_report(&rt, &changes, &tree, &two_new());
-    Ok(())
-}
-
-/// Notes the voxels of a box of four, in room that is made for them.
-fn note_box(changes: &mut Changes, tree: &OccTree) -> Result<(), Memory> {
-    changes.reserve(4)?;
-    changes.note_box(tree, Key { x: 7, y: 6, z: 5 }, Key { x: 8, y: 6, z: 6 });
-    Ok(())
-}
-
-/// The changes where all voxels become occupied, and those of the box were noted before.
-fn four_new() -> [Change; 4] {
-    [
-        change(7, 6, 5, Kind::New),
-        change(7, 6, 6, Kind::New),
-        change(8, 6, 5, Kind::New),
-        change(8, 6, 6, Kind::New),
-    ]
-}
-
-#[test]
-fn notes_each_voxel_of_a_box(rt: HostRuntime) -> Result<(), Fail> {
-    let mut tree = unknown_world(rt.alloc())?;
-    let mut changes = Changes::new(rt.alloc());
-    note_box(&mut changes, &tree)?;
-    expect_len(&rt, &changes, 4);
-    tree.set_place(Place::Root, leaf(tree.odds(), 850));
-    expect_report(&rt, &changes, &tree, &four_new());
     Ok(())
 }

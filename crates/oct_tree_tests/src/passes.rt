@@ -145,64 +145,93 @@ fn stale(rt: &impl Abort, alloc: Global) -> Result<OccTree, Fail>
     Ok(tree)
 }
 
+/// Paths of children, and what stands at their ends.
+type Rows = &'static [(&'static [u8], Seen)];
+
+/// Those of that tree before and after each pass.
+const STALE: Rows = &[(&[], Seen::Inner(100)), (&[5], Seen::Inner(100))];
+
+const REFRESHED: Rows = &[
+    (&[], Seen::Inner(850)),
+    (&[0], Seen::Leaf(100)),
+    (&[3], Seen::Leaf(850)),
+    (&[5], Seen::Inner(-400)),
+    (&[5, 7], Seen::Leaf(-400)),
+];
+
+const PRUNED: Rows = &[
+    (&[], Seen::Inner(100)),
+    (&[3], Seen::Leaf(850)),
+    (&[5], Seen::Leaf(-400)),
+];
+
+const SURE: Rows = &[
+    (&[], Seen::Inner(3500)),
+    (&[0], Seen::Leaf(3500)),
+    (&[3], Seen::Leaf(3500)),
+    (&[5], Seen::Leaf(-2000)),
+];
+
+/// Expects this many groups, and what stands at the ends of paths.
+fn expect_tree(rt: &impl Abort, tree: &OccTree, groups: u32, rows: &[(&[u8], Seen)]) {
+    expect_groups(rt, tree, groups);
+    for (path, want) in rows {
+        expect_at(rt, tree, path, *want);
+    }
+}
+
 #[test]
 fn refresh_mends_inner_values(rt: HostRuntime) -> Result<(), Fail> {
-    let mut tree = unknown(rt.alloc(), 0)?;
-    refresh(&mut tree);
-    expect_at(&rt, &tree, &[], Seen::Absent);
-
     let mut tree = stale(&rt, rt.alloc())?;
-    expect_at(&rt, &tree, &[], Seen::Inner(100));
-    expect_at(&rt, &tree, &[5], Seen::Inner(100));
+    expect_tree(&rt, &tree, 2, STALE);
     refresh(&mut tree);
-    expect_at(&rt, &tree, &[], Seen::Inner(850));
-    expect_at(&rt, &tree, &[0], Seen::Leaf(100));
-    expect_at(&rt, &tree, &[3], Seen::Leaf(850));
-    expect_at(&rt, &tree, &[5], Seen::Inner(-400));
-    expect_at(&rt, &tree, &[5, 7], Seen::Leaf(-400));
-    expect_groups(&rt, &tree, 2);
+    expect_tree(&rt, &tree, 2, REFRESHED);
     Ok(())
 }
 
 #[test]
 fn prune_collapses_up_to_where_nodes_differ(rt: HostRuntime) -> Result<(), Fail> {
-    let mut tree = unknown(rt.alloc(), 2)?;
-    prune(&mut tree);
-    expect_at(&rt, &tree, &[], Seen::Absent);
-    expect_put(&rt, &mut tree, &[], 850);
-    expect_put(&rt, &mut tree, &[2, 3], 850);
-    expect_at(&rt, &tree, &[2, 3], Seen::Leaf(850));
-    expect_groups(&rt, &tree, 2);
-    prune(&mut tree);
-    expect_at(&rt, &tree, &[], Seen::Leaf(850));
-    expect_groups(&rt, &tree, 0);
-
     let mut tree = stale(&rt, rt.alloc())?;
     prune(&mut tree);
-    expect_at(&rt, &tree, &[], Seen::Inner(100));
-    expect_at(&rt, &tree, &[3], Seen::Leaf(850));
-    expect_at(&rt, &tree, &[5], Seen::Leaf(-400));
-    expect_groups(&rt, &tree, 1);
+    expect_tree(&rt, &tree, 1, PRUNED);
+    Ok(())
+}
+
+#[test]
+fn prune_collapses_a_whole_map(rt: HostRuntime) -> Result<(), Fail> {
+    let mut tree = unknown(rt.alloc(), 2)?;
+    expect_put(&rt, &mut tree, &[], 850);
+    expect_put(&rt, &mut tree, &[2, 3], 850);
+    expect_tree(&rt, &tree, 2, &[(&[2, 3], Seen::Leaf(850))]);
+    prune(&mut tree);
+    expect_tree(&rt, &tree, 0, &[(&[], Seen::Leaf(850))]);
     Ok(())
 }
 
 #[test]
 fn maximum_likelihood_makes_known_voxels_sure(rt: HostRuntime) -> Result<(), Fail> {
-    let mut tree = unknown(rt.alloc(), 0)?;
+    let mut tree = stale(&rt, rt.alloc())?;
     maximum_likelihood(&mut tree);
-    expect_at(&rt, &tree, &[], Seen::Absent);
-    // A value at the threshold is occupied.
+    expect_tree(&rt, &tree, 1, SURE);
+    Ok(())
+}
+
+#[test]
+fn a_value_at_the_threshold_is_occupied(rt: HostRuntime) -> Result<(), Fail> {
+    let mut tree = unknown(rt.alloc(), 0)?;
     expect_put(&rt, &mut tree, &[], 0);
     maximum_likelihood(&mut tree);
     expect_at(&rt, &tree, &[], Seen::Leaf(3500));
+    Ok(())
+}
 
-    let mut tree = stale(&rt, rt.alloc())?;
+#[test]
+fn passes_leave_the_unknown_world(rt: HostRuntime) -> Result<(), Fail> {
+    let mut tree = unknown(rt.alloc(), 0)?;
+    refresh(&mut tree);
+    prune(&mut tree);
     maximum_likelihood(&mut tree);
-    expect_at(&rt, &tree, &[], Seen::Inner(3500));
-    expect_at(&rt, &tree, &[0], Seen::Leaf(3500));
-    expect_at(&rt, &tree, &[3], Seen::Leaf(3500));
-    expect_at(&rt, &tree, &[5], Seen::Leaf(-2000));
-    expect_groups(&rt, &tree, 1);
+    expect_at(&rt, &tree, &[], Seen::Absent);
     Ok(())
 }
 

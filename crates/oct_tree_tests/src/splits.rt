@@ -69,15 +69,24 @@ fn splits_and_sets_one_eighth(rt: HostRuntime) -> Result<(), Fail> {
 }
 
 #[test]
-#[tactic(auto, using(crate::proofs::Callers::tree_callers))]
-fn collapses_what_one_leaf_says(rt: HostRuntime) -> Result<(), Fail> {
+fn drops_eight_absent_children(rt: HostRuntime) -> Result<(), Fail> {
     let mut tree = OccTree::new(rt.alloc(), Res::new(100_000_000)?, OddsModel::default());
     tree.reserve(1)?;
     let room = room(&tree);
     tree.split(Place::Root);
     expect_at(&rt, &tree, voxel(7, 8, 9), None);
     assert!(rt; tree.drop_absent(Place::Root));
-    assert_eq!(rt; tree.root(), Node::Absent);
+    expect_root(&rt, &tree, Node::Absent);
+    expect_taken(&rt, &tree, room, 0);
+    Ok(())
+}
+
+#[test]
+#[tactic(auto, using(crate::proofs::Callers::tree_callers))]
+fn collapses_what_one_leaf_says(rt: HostRuntime) -> Result<(), Fail> {
+    let mut tree = OccTree::new(rt.alloc(), Res::new(100_000_000)?, OddsModel::default());
+    tree.reserve(1)?;
+    let room = room(&tree);
     tree.set_place(Place::Root, Node::Leaf(-2000));
     let id = tree.split(Place::Root);
     tree.renew(Place::Root);

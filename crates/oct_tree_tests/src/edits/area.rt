@@ -3,8 +3,7 @@ ghost use Rattle.oct_odds.specs.Update.{IsSmallEvent};
 ghost use Rattle.oct_tree.specs.Shape.{IsWellFormed};
 
 use super::checks::{expect_small, expect_tidy};
-use crate::boxes::{all, apply, need, world};
-use oct_key::Key;
+use crate::boxes::{all, apply, world};
 use oct_odds::Event;
 use oct_tree::OccTree;
 use std::process::Abort;
@@ -23,33 +22,6 @@ fn expect_state(
         (tree.at(all(32_767)), tree.at(all(32_766))),
         (value, beside)
     );
-}
-
-/// Each row: the number of a box's low corner on each axis, its high corner, and the need.
-const NEEDS: &[(u16, (u16, u16, u16), u128)] = &[
-    (32_768, (32_768, 32_768, 32_768), 16),
-    (32_768, (32_769, 32_768, 32_768), 16),
-    (32_768, (32_769, 32_769, 32_769), 15),
-    (32_767, (32_768, 32_768, 32_768), 121),
-    (0, (65_535, 65_535, 65_535), 0),
-];
-
-/// Expects this need of a box.
-fn expect_need(rt: &impl Abort, lo: Key, hi: (u16, u16, u16), want: u128) {
-    let (x, y, z) = hi;
-    assert_eq!(rt; need(rt, lo, Key { x, y, z }), want, "from {lo:?}");
-}
-
-/// Expects the need of each box.
-fn expect_needs(rt: &impl Abort, cases: &[(u16, (u16, u16, u16), u128)]) {
-    for (low, hi, want) in cases {
-        expect_need(rt, all(*low), *hi, *want);
-    }
-}
-
-#[test]
-fn counts_the_blocks_that_a_box_cuts(rt: HostRuntime) {
-    expect_needs(&rt, NEEDS);
 }
 
 /// An event, the numbers of a box's corners, the groups afterwards, and the values of a voxel in
