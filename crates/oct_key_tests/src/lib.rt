@@ -1,7 +1,7 @@
-//! The tests of [`oct_num`], [`oct_key`], [`oct_brick`], [`oct_odds`], [`oct_pose`] and [`oct_ray`]:
-//! numbers that are read, written and rounded; resolutions, voxels, blocks, codes and boxes; bricks
-//! that are joined; log-odds at and beyond their bounds; points that are turned and moved; beams
-//! that are cut, and the voxels that they meet.
+//! The tests of [`oct_num`], [`oct_key`], [`oct_brick`], [`oct_odds`], [`oct_pose`] and
+//! [`oct_ray`]: numbers that are read, written and rounded; resolutions, voxels, blocks, codes and
+//! boxes; bricks that are joined; log-odds at and beyond their bounds; points that are turned and
+//! moved; beams that are cut, and the voxels that they meet.
 //!
 //! They compare the definitions with examples worked out by hand, and show that calls succeed while
 //! there is memory, which no clause can say. They call public functions alone. `rt test` in this

@@ -1,6 +1,6 @@
-//! The tests of [`oct_map`]: what an [`oct_map::OccMap`] keeps and gives back of its memory, and the
-//! texts of its faults. What its calls answer is told by the rows of `tests/rows` and by the tests in
-//! `bindings/c/tests`.
+//! The tests of [`oct_map`]: what an [`oct_map::OccMap`] keeps and gives back of its memory, and
+//! the texts of its faults. What its calls answer is told by the rows of `tests/rows` and by the
+//! tests in `bindings/c/tests`.
 //!
 //! They compare the definitions with examples worked out by hand, and show that calls succeed while
 //! there is memory, which no clause can say. They call public functions alone. `rt test` in this
