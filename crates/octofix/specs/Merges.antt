@@ -39,7 +39,7 @@ alike_answer m o =
 -- What a merge of the map o, which p is left of, makes of a map: all that the map says of it.
 pub record IsMapMerge (rule : Rule) (m o n p : Map) (done : Result ⊤ MapFault) : Type 0 where
   pub answered : IsMergeAnswered m o done
-  pub done : OnOk done (HasMerged rule m o n)
+  pub merged : OnOk done (HasMerged rule m o n)
   pub refused : IfErr done (IsMergeRefused m n)
   pub wide : (count : ℕ) → done ≡ Err (fault.WideWhileTracked count) → (n ≡ m) × (p ≡ o)
   pub kept : IsKeptByMerge m o n

@@ -11,7 +11,7 @@ said : (c : After-merge) → IsMapMerge c.args.rule c.args.map.now c.args.other.
     c.merge.new.self c.merge.new.other c.merge.result
 said c = record {
   answered = c.merge.ensures.answered;
-  done = c.merge.ensures.done;
+  merged = c.merge.ensures.done;
   refused = c.merge.ensures.refused;
   wide = c.merge.ensures.wide;
   kept = c.merge.ensures.kept;
