@@ -26,6 +26,7 @@ use Rattle.oct_session.specs.FileCommands.{restore_reply, restore_action}
 use Rattle.oct_session.specs.FileCommands.{snapshot_reply, snapshot_action}
 use Rattle.oct_session.specs.History.{History, State, Action, Edited, Scanned, Refreshed, Cleared}
 use Rattle.oct_session.specs.History.{Likened, Replaced, Restored, Tracked, Untracked, state_after}
+use Rattle.oct_session.specs.History.{Boxed, Limited, Unlimited, Pruned}
 use Rattle.oct_session.specs.Refusals.{refusal_of}
 use Rattle.oct_session.specs.ScanBlock.{block_reply, block_action}
 use Rattle.oct_session.specs.ScanSoFar.{ScanSoFar, sighting_so_far}
@@ -84,6 +85,22 @@ pub edit_adds : (o : Setup) (p : Point) (edit : Edit) (lazy : Bool)
 edit_adds o p edit lazy =
     order_adds o (command.Edit p edit lazy) (order.Edit p edit lazy) (λ files s number line. refl)
 
+pub box_adds : (o : Setup) (from to : Point) (edit : Edit)
+    → Adds o None (command.Box from to edit) reply_of.Ok (λ a. a ≡ Boxed from to edit)
+box_adds o from to edit =
+    order_adds o (command.Box from to edit) (order.Box from to edit) (λ files s number line. refl)
+
+pub limit_adds : (o : Setup) (from to : Point)
+    → Adds o None (command.Limit from to) reply_of.Ok (λ a. a ≡ Limited from to)
+limit_adds o from to =
+    order_adds o (command.Limit from to) (order.Limit from to) (λ files s number line. refl)
+
+pub nolimit_adds : (o : Setup) → Adds o None command.NoLimit reply_of.Ok (λ a. a ≡ Unlimited)
+nolimit_adds o = order_adds o command.NoLimit order.NoLimit (λ files s number line. refl)
+
+pub prune_adds : (o : Setup) → Adds o None command.Prune reply_of.Ok (λ a. a ≡ Pruned)
+prune_adds o = order_adds o command.Prune order.Prune (λ files s number line. refl)
+
 pub refresh_adds : (o : Setup) → Adds o None command.Refresh reply_of.Ok (λ a. a ≡ Refreshed)
 refresh_adds o = order_adds o command.Refresh order.Refresh (λ files s number line. refl)
 
@@ -115,7 +132,7 @@ scan_adds o scan done files bytes before line is answer =
 
 -- ---- files
 
-restored_apart : (r : Option Refusal) (groups : ℕ)
+pub restored_apart : (r : Option Refusal) (groups : ℕ)
     → option_map reply_of.Refused r ≡ Some (reply_of.Restored groups) → ⊥
 restored_apart None groups is = cc
 restored_apart (Some r) groups is = cc

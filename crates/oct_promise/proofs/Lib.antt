@@ -17,6 +17,8 @@ pub mod Allowed
 pub mod BlockReplies
 pub mod Summed
 pub mod DrillEnds
+pub mod Since
+pub mod AcceptedLines
 pub mod MarksLive
 pub mod Queries
 pub mod Refusals
@@ -26,6 +28,8 @@ pub mod ScansDone
 pub mod EditsDone
 pub mod ListsDone
 pub mod HistoriesKept
+pub mod FilesRestored
+pub mod Questions
 pub mod OwnActions
 pub mod SameFiles
 pub mod RegionStates
@@ -33,5 +37,6 @@ pub mod RegionLines
 pub mod RegionsKept
 pub mod RegionScripts
 pub mod RegionFiles
+pub mod RegionMaps
 pub mod EndingsDone
 pub mod Shifted

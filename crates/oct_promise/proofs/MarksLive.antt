@@ -1,38 +1,27 @@
--- How long a mark lives, and when a map is stale.
-use Rattle.std.proofs.Common.{◌≡◌, [], ◌∷◌, Bool, true, false, ◌||◌, Option, Some, None, ◌⊎◌}
-use Rattle.std.proofs.Common.{inl, inr, refl, sym, ap, ◌∙◌, ◌↔◌}
-use Rattle.std.specs.Prelude.{All}
+-- How long a mark lives, and when a map is stale: by what each line adds to the history, and so by
+-- the lines.
+use Rattle.std.proofs.Common.{◌≡◌, ◌∷◌, ◌++◌, List, [], Bool, true, false, ◌||◌, Option, Some, None}
+use Rattle.std.proofs.Common.{◌⊎◌, inl, inr, refl, sym, ap, subst, ◌∙◌, ◌↔◌}
+use Rattle.std.specs.Prelude.{⊤}
 use Rattle.std.proofs.lemmas.Bool.{false≢true}
-use Rattle.std.proofs.lemmas.List.Elements.{All-nil, All-cons, All-head, All-tail}
+use Rattle.oct_io.specs.Files.{Files}
+use Rattle.oct_script.specs.Lines.{Line}
 use Rattle.oct_values.specs.Classes.{Classes}
-use Rattle.oct_session.specs.History.{History, State, Action, Edited, Boxed, Scanned, Refreshed}
+use Rattle.oct_session.specs.History.{State, Action, Edited, Boxed, Scanned, Refreshed}
 use Rattle.oct_session.specs.History.{Pruned, Cleared, Likened, Replaced, Restored, Tracked}
-use Rattle.oct_session.specs.History.{Untracked, Limited, Unlimited, after, after_all, state_after}
-use Rattle.oct_session.specs.History.{start_state}
+use Rattle.oct_session.specs.History.{Untracked, Limited, Unlimited, after}
 use Rattle.oct_session.specs.Setup.{Setup}
-use Rattle.oct_session.proofs.MapHistory.{state_more}
-use Rattle.oct_promise.specs.Lines.{classes_in}
-use Rattle.oct_promise.specs.Marks.{IsLazy, IsMend, EndsMark, IsSince, IsLeftStale, IsMarkedBehind}
+use Rattle.oct_promise.specs.Lines.{classes_in, state_behind}
+use Rattle.oct_promise.specs.Marks.{IsLazyLine, IsMend, IsTrack, EndsMark, IsLeftStale}
+use Rattle.oct_promise.specs.Marks.{IsMarkedBehind}
+use Rattle.oct_promise.proofs.AcceptedLines.{IsLazyAction, IsMendAction, EndsMarkAction, Adds}
+use Rattle.oct_promise.proofs.AcceptedLines.{AddsSuch, AddsNone, Makes, state_added, state_kept}
+use Rattle.oct_promise.proofs.AcceptedLines.{adds_same, adds_some, adds_or_not, lazy_adds}
+use Rattle.oct_promise.proofs.AcceptedLines.{mend_adds, track_adds, end_adds, lazy_line, mend_line}
+use Rattle.oct_promise.proofs.AcceptedLines.{track_line, end_line}
+use Rattle.oct_promise.proofs.Since.{StepsBack, Keeps, found_begun, held_since}
 
--- ---- histories
-
--- one action more in front
-later_on : (a b : Action) (Ends : Action → Type 0) (h early : History) → IsSince a Ends h early
-    → IsSince a Ends (b ∷ h) (b ∷ early)
-later_on a b Ends h early since = record {
-  later = since.later;
-  parts = ap (λ (x : History). b ∷ x) since.parts;
-  none = since.none;
-}
-
--- the state after the parts of a history
-after_parts : (o : Setup) (a : Action) (Ends : Action → Type 0) (h early : History)
-    → (since : IsSince a Ends h early)
-    → state_after o h ≡ after_all (after (state_after o early) a) since.later
-after_parts o a Ends h early since =
-    ap (state_after o) since.parts ∙ state_more o early (a ∷ since.later)
-
--- ---- staleness
+-- ---- actions
 
 left_false : (b : Bool) → (b || false) ≡ true → b ≡ true
 left_false true is = refl
@@ -43,13 +32,13 @@ right_true true = refl
 right_true false = refl
 
 -- what a stale map owes its staleness to, one action back
-either_lazy : (a : Action) (was lazy : Bool) → (lazy ≡ true → IsLazy a) → (¬ IsMend a)
-    → (was || lazy) ≡ true → IsLazy a ⊎ ((¬ IsMend a) × (was ≡ true))
+either_lazy : (a : Action) (was lazy : Bool) → (lazy ≡ true → IsLazyAction a) → (¬ IsMendAction a)
+    → (was || lazy) ≡ true → IsLazyAction a ⊎ ((¬ IsMendAction a) × (was ≡ true))
 either_lazy a was true is_lazy never is = inl (is_lazy refl)
 either_lazy a was false is_lazy never is = inr (never, left_false was is)
 
 stale_by : (s : State) (a : Action) → (after s a).is_stale ≡ true
-    → IsLazy a ⊎ ((¬ IsMend a) × (s.is_stale ≡ true))
+    → IsLazyAction a ⊎ ((¬ IsMendAction a) × (s.is_stale ≡ true))
 stale_by s (Edited p edit lazy) is =
     either_lazy (Edited p edit lazy) s.is_stale lazy (λ e. e) (λ never. never) is
 stale_by s (Scanned scan lazy) is =
@@ -67,12 +56,12 @@ stale_by s (Limited lo hi) is = inr (λ never. never, is)
 stale_by s Unlimited is = inr (λ never. never, is)
 
 -- a lazy action leaves a map stale, and one that doesn't mend it leaves it so
-lazy_leaves : (s : State) (a : Action) → IsLazy a → (after s a).is_stale ≡ true
+lazy_leaves : (s : State) (a : Action) → IsLazyAction a → (after s a).is_stale ≡ true
 lazy_leaves s (Edited p edit lazy) is = ap (λ b. s.is_stale || b) is ∙ right_true s.is_stale
 lazy_leaves s (Scanned scan lazy) is = ap (λ b. s.is_stale || b) is ∙ right_true s.is_stale
 lazy_leaves s other is = absurd is
 
-stale_stays : (s : State) (a : Action) → (¬ IsMend a) → s.is_stale ≡ true
+stale_stays : (s : State) (a : Action) → (¬ IsMendAction a) → s.is_stale ≡ true
     → (after s a).is_stale ≡ true
 stale_stays s (Edited p edit lazy) never is = ap (λ b. b || lazy) is
 stale_stays s (Scanned scan lazy) never is = ap (λ b. b || lazy) is
@@ -88,55 +77,8 @@ stale_stays s Untracked never is = is
 stale_stays s (Limited lo hi) never is = is
 stale_stays s Unlimited never is = is
 
-all_stay : (s : State) (h : History) → All (λ a. ¬ IsMend a) h → s.is_stale ≡ true
-    → (after_all s h).is_stale ≡ true
-all_stay s [] none is = is
-all_stay s (a ∷ h) none is =
-    all_stay (after s a) h (All-tail (λ a. ¬ IsMend a) a h none)
-    (stale_stays s a (All-head (λ a. ¬ IsMend a) a h none) is)
-
-stale_since : (s : State) (h : History) → (after_all s h).is_stale ≡ true
-    → (All (λ a. ¬ IsMend a) h × (s.is_stale ≡ true)) ⊎ IsLeftStale h
-stale_since s [] is = inl (All-nil (λ a. ¬ IsMend a), is)
-stale_since s (a ∷ h) is = by_rest (stale_since (after s a) h is)
-  where
-    by_first : All (λ a. ¬ IsMend a) h → IsLazy a ⊎ ((¬ IsMend a) × (s.is_stale ≡ true))
-        → (All (λ a. ¬ IsMend a) (a ∷ h) × (s.is_stale ≡ true)) ⊎ IsLeftStale (a ∷ h)
-    by_first none (inl lazy) =
-        inr (a, lazy, ([], record { later = h; parts = refl; none = none }))
-    by_first none (inr (never, was)) = inl (All-cons (λ a. ¬ IsMend a) a h never none, was)
-
-    by_rest : (All (λ a. ¬ IsMend a) h × ((after s a).is_stale ≡ true)) ⊎ IsLeftStale h
-        → (All (λ a. ¬ IsMend a) (a ∷ h) × (s.is_stale ≡ true)) ⊎ IsLeftStale (a ∷ h)
-    by_rest (inl (none, was)) = by_first none (stale_by s a was)
-    by_rest (inr (b, lazy, (early, since))) =
-        inr (b, lazy, (a ∷ early, later_on b a IsMend h early since))
-
-from_start : (o : Setup) (h : History)
-    → (All (λ a. ¬ IsMend a) h × ((start_state o).is_stale ≡ true)) ⊎ IsLeftStale h
-    → IsLeftStale h
-from_start o h (inl (none, was)) = absurd (false≢true was)
-from_start o h (inr left) = left
-
-left_stale : (o : Setup) (h : History) (a : Action) (early : History) → IsLazy a
-    → IsSince a IsMend h early → (state_after o h).is_stale ≡ true
-left_stale o h a early lazy since =
-    ap (λ (s : State). s.is_stale) (after_parts o a IsMend h early since)
-    ∙ all_stay (after (state_after o early) a) since.later since.none
-    (lazy_leaves (state_after o early) a lazy)
-
--- a map is stale exactly where it was left so
-pub stale_exactly : (o : Setup) (h : History)
-    → ((state_after o h).is_stale ≡ true) ↔ IsLeftStale h
-stale_exactly o h = (
-  λ is. from_start o h (stale_since (start_state o) h is),
-  λ left. left_stale o h left.0 left.2.0 left.1 left.2.1,
-)
-
--- ---- marks
-
 mark_by : (s : State) (a : Action) (c : Classes) → (after s a).marked ≡ Some c
-    → ((a ≡ Tracked) × (c ≡ classes_in s)) ⊎ ((¬ EndsMark a) × (s.marked ≡ Some c))
+    → ((a ≡ Tracked) × (c ≡ classes_in s)) ⊎ ((¬ EndsMarkAction a) × (s.marked ≡ Some c))
 mark_by s Tracked c is = inl (refl, (let e : c ≡ classes_in s = cc in e))
 mark_by s Untracked c is = absurd cc
 mark_by s Cleared c is = absurd cc
@@ -151,7 +93,7 @@ mark_by s Likened c is = inr (λ never. never, is)
 mark_by s (Limited lo hi) c is = inr (λ never. never, is)
 mark_by s Unlimited c is = inr (λ never. never, is)
 
-mark_stays : (s : State) (a : Action) → (¬ EndsMark a) → (after s a).marked ≡ s.marked
+mark_stays : (s : State) (a : Action) → (¬ EndsMarkAction a) → (after s a).marked ≡ s.marked
 mark_stays s Tracked never = absurd (never tt)
 mark_stays s Untracked never = absurd (never tt)
 mark_stays s Cleared never = absurd (never tt)
@@ -166,74 +108,165 @@ mark_stays s Likened never = refl
 mark_stays s (Limited lo hi) never = refl
 mark_stays s Unlimited never = refl
 
-marks_stay : (s : State) (h : History) → All (λ a. ¬ EndsMark a) h
-    → (after_all s h).marked ≡ s.marked
-marks_stay s [] none = refl
-marks_stay s (a ∷ h) none =
-    marks_stay (after s a) h (All-tail (λ a. ¬ EndsMark a) a h none)
-    ∙ mark_stays s a (All-head (λ a. ¬ EndsMark a) a h none)
+-- ---- lines
 
--- the mark of these classes was set behind an earlier part of a history
-abbrev IsSet : State → History → Classes → Type 0
-IsSet s h c = (early : History) × IsMarkedBehind h early × (c ≡ classes_in (after_all s early))
+module _ (o : Setup) (files : Option Files) where
+  -- a line that adds nothing, or what is none of these, is none of them
+  none_such : (start : List Line) (x : Line) (IsSuch : Action → Type 0) (Is : Type 0)
+      → (Is → AddsSuch o files start x IsSuch) → AddsNone o files start x → ¬ Is
+  none_such start x IsSuch Is adds none =
+      λ it. (let (a, such, added) = adds it in adds_some o files start x a added none)
 
-mark_since : (s : State) (h : History) (c : Classes) → (after_all s h).marked ≡ Some c
-    → (All (λ a. ¬ EndsMark a) h × (s.marked ≡ Some c)) ⊎ IsSet s h c
-mark_since s [] c is = inl (All-nil (λ a. ¬ EndsMark a), is)
-mark_since s (a ∷ h) c is = by_rest (mark_since (after s a) h c is)
-  where
-    by_first : All (λ a. ¬ EndsMark a) h
-        → ((a ≡ Tracked) × (c ≡ classes_in s)) ⊎ ((¬ EndsMark a) × (s.marked ≡ Some c))
-        → (All (λ a. ¬ EndsMark a) (a ∷ h) × (s.marked ≡ Some c)) ⊎ IsSet s (a ∷ h) c
-    by_first none (inl (is_track, then)) = inr (
-      [],
-      record { later = h; parts = ap (λ (x : Action). x ∷ h) is_track; none = none },
-      then,
+  other_such : (start : List Line) (x : Line) (IsSuch : Action → Type 0) (Is : Type 0)
+      (a : Action) → (Is → AddsSuch o files start x IsSuch) → Adds o files start x a
+      → (¬ IsSuch a) → ¬ Is
+  other_such start x IsSuch Is a adds one never =
+      λ it. (let (b, such, added) = adds it in
+      never (subst IsSuch (adds_same o files start x b a added one) such))
+
+  -- ---- staleness
+
+  abbrev IsStale : List Line → Type 0
+  IsStale lines = (state_behind o files lines).is_stale ≡ true
+
+  abbrev Any : List Line → Type 0
+  Any lines = ⊤
+
+  stale_back : StepsBack (IsLazyLine o files) (IsMend o files) IsStale Any
+  stale_back start x is = by_line (adds_or_not o files start x)
+    where
+      by_action : (a : Action) → Makes o files start x a → Adds o files start x a
+          → IsLazyAction a ⊎ ((¬ IsMendAction a) × IsStale start)
+          → (IsLazyLine o files start x × ⊤) ⊎ (IsStale start × ¬ IsMend o files start x)
+      by_action a made adds (inl lazy) = inl (lazy_line o files start x a made lazy, tt)
+      by_action a made adds (inr (never, was)) = inr (
+        was,
+        other_such start x IsMendAction (IsMend o files start x) a (mend_adds o files start x) adds
+            never,
+      )
+
+      by_line : AddsNone o files start x ⊎ AddsSuch o files start x (Makes o files start x)
+          → (IsLazyLine o files start x × ⊤) ⊎ (IsStale start × ¬ IsMend o files start x)
+      by_line (inl none) = inr (
+        ap (λ (s : State). s.is_stale) (sym (state_kept o files start x none)) ∙ is,
+        none_such start x IsMendAction (IsMend o files start x) (mend_adds o files start x) none,
+      )
+      by_line (inr (a, made, adds)) = by_action a made adds (stale_by (state_behind o files start) a
+          (ap (λ (s : State). s.is_stale) (sym (state_added o files start x a adds)) ∙ is))
+
+  stale_keeps : Keeps (IsLazyLine o files) (IsMend o files) IsStale Any
+  stale_keeps start x never was = by_line (adds_or_not o files start x)
+    where
+      by_line : AddsNone o files start x ⊎ AddsSuch o files start x (Makes o files start x)
+          → IsStale (start ++ x ∷ [])
+      by_line (inl none) =
+          ap (λ (s : State). s.is_stale) (state_kept o files start x none) ∙ was
+      by_line (inr (a, made, adds)) =
+          ap (λ (s : State). s.is_stale) (state_added o files start x a adds)
+          ∙ stale_stays (state_behind o files start) a
+          (λ such. never (mend_line o files start x a made such)) was
+
+  stale_begins : (start : List Line) (x : Line) → IsLazyLine o files start x → Any start
+      → IsStale (start ++ x ∷ [])
+  stale_begins start x lazy any = (let (a, such, adds) = lazy_adds o files start x lazy in
+      ap (λ (s : State). s.is_stale) (state_added o files start x a adds)
+      ∙ lazy_leaves (state_behind o files start) a such)
+
+  -- a map is stale exactly where it was left so
+  pub stale_exactly : (lines : List Line) → IsStale lines ↔ IsLeftStale o files lines
+  stale_exactly lines = (
+    λ is. (let (before, since, any) = found_begun (IsLazyLine o files) (IsMend o files) IsStale Any
+        stale_back false≢true lines is in (before, since)),
+    λ left. held_since (IsLazyLine o files) (IsMend o files) IsStale Any stale_keeps stale_begins
+        lines left.0 left.1 tt,
+  )
+
+  -- a map that wasn't left stale isn't stale
+  not_left : (b : Bool) (P : Type 0) → (b ≡ true → P) → ¬ P → b ≡ false
+  not_left true P holds never = absurd (never (holds refl))
+  not_left false P holds never = refl
+
+  pub fresh : (lines : List Line) → ¬ IsLeftStale o files lines
+      → (state_behind o files lines).is_stale ≡ false
+  fresh lines never = not_left (state_behind o files lines).is_stale (IsLeftStale o files lines)
+      (stale_exactly lines).0 never
+
+  -- ---- marks
+
+  module _ (c : Classes) where
+    abbrev HasMark : List Line → Type 0
+    HasMark lines = (state_behind o files lines).marked ≡ Some c
+
+    abbrev HadClasses : List Line → Type 0
+    HadClasses before = c ≡ classes_in (state_behind o files before)
+
+    mark_back : StepsBack (IsTrack o files) (EndsMark o files) HasMark HadClasses
+    mark_back start x is = by_line (adds_or_not o files start x)
+      where
+        by_action : (a : Action) → Makes o files start x a → Adds o files start x a
+            → ((a ≡ Tracked) × HadClasses start) ⊎ ((¬ EndsMarkAction a) × HasMark start)
+            → (IsTrack o files start x × HadClasses start)
+            ⊎ (HasMark start × ¬ EndsMark o files start x)
+        by_action a made adds (inl (set, had)) = inl (track_line o files start x a made set, had)
+        by_action a made adds (inr (never, was)) = inr (
+          was,
+          other_such start x EndsMarkAction (EndsMark o files start x) a (end_adds o files start x)
+              adds never,
+        )
+
+        by_line : AddsNone o files start x ⊎ AddsSuch o files start x (Makes o files start x)
+            → (IsTrack o files start x × HadClasses start)
+            ⊎ (HasMark start × ¬ EndsMark o files start x)
+        by_line (inl none) = inr (
+          ap (λ (s : State). s.marked) (sym (state_kept o files start x none)) ∙ is,
+          none_such start x EndsMarkAction (EndsMark o files start x) (end_adds o files start x)
+              none,
+        )
+        by_line (inr (a, made, adds)) =
+            by_action a made adds (mark_by (state_behind o files start) a c
+            (ap (λ (s : State). s.marked) (sym (state_added o files start x a adds)) ∙ is))
+
+    mark_keeps : Keeps (IsTrack o files) (EndsMark o files) HasMark HadClasses
+    mark_keeps start x never was = by_line (adds_or_not o files start x)
+      where
+        by_line : AddsNone o files start x ⊎ AddsSuch o files start x (Makes o files start x)
+            → HasMark (start ++ x ∷ [])
+        by_line (inl none) = ap (λ (s : State). s.marked) (state_kept o files start x none) ∙ was
+        by_line (inr (a, made, adds)) =
+            ap (λ (s : State). s.marked) (state_added o files start x a adds)
+            ∙ mark_stays (state_behind o files start) a
+            (λ such. never (end_line o files start x a made such)) ∙ was
+
+    mark_begins : (start : List Line) (x : Line) → IsTrack o files start x → HadClasses start
+        → HasMark (start ++ x ∷ [])
+    mark_begins start x set had =
+        ap (λ (s : State). s.marked) (state_added o files start x Tracked
+        (track_adds o files start x set)) ∙ ap Some (sym had)
+
+    no_mark : ¬ HasMark []
+    no_mark is = cc
+
+    -- a mark has classes exactly where they were those behind the lines before its `track`
+    pub marked_exactly : (lines : List Line) → HasMark lines
+        ↔ ((before : List Line) × IsMarkedBehind o files lines before × HadClasses before)
+    marked_exactly lines = (
+      found_begun (IsTrack o files) (EndsMark o files) HasMark HadClasses mark_back no_mark lines,
+      λ set. held_since (IsTrack o files) (EndsMark o files) HasMark HadClasses mark_keeps
+          mark_begins lines set.0 set.1 set.2,
     )
-    by_first none (inr (never, was)) = inl (All-cons (λ a. ¬ EndsMark a) a h never none, was)
 
-    by_rest : (All (λ a. ¬ EndsMark a) h × ((after s a).marked ≡ Some c)) ⊎ IsSet (after s a) h c
-        → (All (λ a. ¬ EndsMark a) (a ∷ h) × (s.marked ≡ Some c)) ⊎ IsSet s (a ∷ h) c
-    by_rest (inl (none, was)) = by_first none (mark_by s a c was)
-    by_rest (inr (early, since, then)) =
-        inr (a ∷ early, later_on Tracked a EndsMark h early since, then)
+  pub marked_then : (lines before : List Line) → IsMarkedBehind o files lines before
+      → (state_behind o files lines).marked ≡ Some (classes_in (state_behind o files before))
+  marked_then lines before since =
+      (marked_exactly (classes_in (state_behind o files before)) lines).1 (before, since, refl)
 
-marked_from_start : (o : Setup) (h : History) (c : Classes)
-    → (All (λ a. ¬ EndsMark a) h × ((start_state o).marked ≡ Some c)) ⊎ IsSet (start_state o) h c
-    → IsSet (start_state o) h c
-marked_from_start o h c (inl (none, was)) = absurd cc
-marked_from_start o h c (inr set) = set
+  -- where none was set, none stands
+  none_is : (m : Option Classes) → ((c : Classes) → m ≡ Some c → ⊥) → m ≡ None
+  none_is None never = refl
+  none_is (Some c) never = absurd (never c refl)
 
-pub marked_then : (o : Setup) (h early : History) → IsMarkedBehind h early
-    → (state_after o h).marked ≡ Some (classes_in (state_after o early))
-marked_then o h early since =
-    ap (λ (s : State). s.marked) (after_parts o Tracked EndsMark h early since)
-    ∙ marks_stay (after (state_after o early) Tracked) since.later since.none
-
--- a mark has classes exactly where they were those behind the history at which it was set
-pub marked_exactly : (o : Setup) (h : History) (c : Classes)
-    → ((state_after o h).marked ≡ Some c)
-    ↔ ((early : History) × IsMarkedBehind h early × (c ≡ classes_in (state_after o early)))
-marked_exactly o h c = (
-  λ is. marked_from_start o h c (mark_since (start_state o) h c is),
-  λ set. marked_then o h set.0 set.1 ∙ ap Some (sym set.2),
-)
-
--- a map that wasn't left stale isn't stale
-not_left : (b : Bool) (P : Type 0) → (b ≡ true → P) → ¬ P → b ≡ false
-not_left true P holds never = absurd (never (holds refl))
-not_left false P holds never = refl
-
-pub fresh : (o : Setup) (h : History) → ¬ IsLeftStale h → (state_after o h).is_stale ≡ false
-fresh o h never =
-    not_left (state_after o h).is_stale (IsLeftStale h) (stale_exactly o h).0 never
-
--- and a history without a mark has none
-none_is : (m : Option Classes) → ((c : Classes) → m ≡ Some c → ⊥) → m ≡ None
-none_is None never = refl
-none_is (Some c) never = absurd (never c refl)
-
-pub unmarked : (o : Setup) (h : History) → ((early : History) → ¬ IsMarkedBehind h early)
-    → (state_after o h).marked ≡ None
-unmarked o h never = none_is (state_after o h).marked (λ c m.
-    let found = (marked_exactly o h c).0 m in never found.0 found.1)
+  pub unmarked : (lines : List Line)
+      → ((before : List Line) → ¬ IsMarkedBehind o files lines before)
+      → (state_behind o files lines).marked ≡ None
+  unmarked lines never = none_is (state_behind o files lines).marked (λ c m.
+      let found = (marked_exactly c lines).0 m in never found.0 found.1)

@@ -34,7 +34,7 @@ use Rattle.oct_session.specs.Commands.{get_reply, cast_reply, changes_reply, val
 use Rattle.oct_session.specs.History.{State, state_after}
 use Rattle.oct_session.specs.Session.{Progress, Effect, effect_of, progress}
 use Rattle.oct_session.specs.Setup.{Setup}
-use Rattle.oct_promise.specs.Lines.{IsLine, classes_in}
+use Rattle.oct_promise.specs.Lines.{IsLine, classes_in, state_behind}
 use Rattle.oct_promise.specs.Promise.{GetsGreatest, NeedsRefresh, CastsFirst, TellsChanges}
 use Rattle.oct_promise.specs.Promise.{NeedsMark}
 use Rattle.oct_promise.specs.States.{IsSetUp}
@@ -87,7 +87,7 @@ gets_greatest o set files bytes before line p depth is k b low holds ok at held 
     subst (λ n. key_at n p ≡ Some k) (sym (res_of o r.history))
     (key_at-Holds o.res p k (let least = set.res.0 in omega (arith, least)) low holds) in
     let found = found_in_block s p depth k b key ok at held
-    (λ above. fresh o r.history (never above)) in
+    (λ above. fresh o files before (never above)) in
     let replied : (effect_of o r line).reply
     ≡ Some (value_reply s.base.odds (depth_value s.values b)) =
     ap (λ (e : Effect). e.reply) (effect_next o r line (command.Get p depth)
@@ -122,7 +122,7 @@ needs_refresh o set files bytes before line p depth is k low holds above left =
     (key_at-Holds o.res p k (let least = set.res.0 in omega (arith, least)) low holds) in
     let answer : get_answer s.base s.is_stale s.values p depth ≡ Err fault.Stale =
     ap (get_answer_at s.is_stale s.values depth) key
-    ∙ stale_block s.is_stale s.values depth k ((stale_exactly o r.history).1 left) above in
+    ∙ stale_block s.is_stale s.values depth k ((stale_exactly o files before).1 left) above in
     let replied : (effect_of o r line).reply ≡ Some (Refused refusal.Stale) =
     ap (λ (e : Effect). e.reply) (effect_next o r line (command.Get p depth)
     (next_line o files bytes before line (command.Get p depth) is))
@@ -166,14 +166,14 @@ pub changes_told : (o : Setup) (files : Option Files) (bytes : List ℕ) (before
     → TellsChanges o files bytes before
 changes_told o files bytes before line is early since =
     let r : Progress = progress o files before in
-    let then : State = state_after o early in
+    let then : State = state_behind o files early in
     let s : State = state_after o r.history in
     let replied : (effect_of o r line).reply
     ≡ Some (Changed (changes_between (classes_in then) (classes_in s))) =
     ap (λ (e : Effect). e.reply) (effect_next o r line command.Changes
     (next_line o files bytes before line command.Changes is))
     ∙ ap (λ (m : Option Classes). changes_reply (changes_answer m (classes_in s)))
-    (marked_then o r.history early since) in (
+    (marked_then o files before early since) in (
       changes_between (classes_in then) (classes_in s),
       right_changes (classes_in then) (classes_in s),
       line_replied o files bytes before line None (Ok command.Changes) _ is replied,
@@ -190,5 +190,5 @@ needs_mark o files bytes before line is never =
     ap (λ (e : Effect). e.reply) (effect_next o r line command.Changes
     (next_line o files bytes before line command.Changes is))
     ∙ ap (λ (m : Option Classes). changes_reply (changes_answer m (classes_in s)))
-    (unmarked o r.history never) in
+    (unmarked o files before never) in
     line_replied o files bytes before line None (Ok command.Changes) _ is replied

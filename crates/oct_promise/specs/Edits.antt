@@ -1,5 +1,5 @@
--- What each command that is no scan makes of a state, voxel by voxel. How long a mark lives, and
--- when a map is stale, stands in Marks.antt.
+-- What each command but a scan and a load, which stand in Promise.antt, makes of a state, voxel by
+-- voxel. How long a mark lives, and when a map is stale, stands in Marks.antt.
 use Rattle.std.specs.Prelude.{◌≡◌, ◌||◌, Some, None, Bool, true, false}
 use Rattle.oct_bt.specs.Classes.{value_for}
 use Rattle.oct_key.specs.Boxes.{IsBox, IsInBox}
@@ -11,6 +11,7 @@ use Rattle.oct_odds.specs.declared.event.Event.TheVariants as event
 use Rattle.oct_script.specs.declared.command.Edit.{Edit}
 use Rattle.oct_script.specs.declared.command.Edit.TheVariants.{Hit, Miss, Add, Set, Forget}
 use Rattle.oct_session.specs.History.{State}
+use Rattle.oct_snap.specs.Reading.{Snapshot, values_of}
 use Rattle.oct_promise.specs.Lines.{classes_in}
 
 -- the voxel of the map that holds the point
@@ -67,6 +68,17 @@ pub record IsSurest (old new : State) : Type 0 where
 pub record IsCleared (old new : State) : Type 0 where
   pub values : (k : Voxel) → new.values k ≡ None
   pub beside : (new.base ≡ old.base) × (new.marked ≡ None) × (new.is_stale ≡ false)
+
+-- A restore leaves each voxel the value that the snapshot has for it, and no mark. Its log-odds and
+-- its box of scans are in force then; the older version has neither, and leaves both. Limits stay.
+pub record IsRestored (read : Snapshot) (old new : State) : Type 0 where
+  pub values : (k : Voxel) → IsInMap k → new.values k ≡ values_of read k
+  pub older : read.head.version ≡ 1 → new.base ≡ old.base
+  pub newer : read.head.version ≡ 2 → new.base ≡ record old.base {
+    odds = read.head.odds;
+    update_box = read.head.window;
+  }
+  pub beside : (new.marked ≡ None) × (new.is_stale ≡ false)
 
 -- `limit` sets the box of scans to that of two points, and changes nothing else
 pub record IsLimitedTo (from to : Point) (old new : State) : Type 0 where

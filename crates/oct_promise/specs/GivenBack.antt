@@ -1,5 +1,5 @@
 -- What a snapshot or a save keeps, and a restore or a load of its name gives back, in one session.
-use Rattle.std.specs.Prelude.{◌≡◌, ◌≢◌, ◌≤◌, ◌^◌, ℕ, List, [], ◌∷◌, ◌++◌, length, ⊤, Option}
+use Rattle.std.specs.Prelude.{◌≡◌, ◌≢◌, ◌≤◌, ◌⊎◌, ◌^◌, ℕ, List, [], ◌∷◌, ◌++◌, length, ⊤, Option}
 use Rattle.std.specs.Prelude.{Some, None, option_map, Ok}
 use Rattle.oct_bt.specs.Canonical.{canonical_size}
 use Rattle.oct_bt.specs.DataClasses.{data_classes}
@@ -10,8 +10,10 @@ use Rattle.oct_script.specs.Lines.{Line}
 use Rattle.oct_script.specs.declared.command.Command.{Command}
 use Rattle.oct_script.specs.declared.command.Command.TheVariants.{Snapshot, Restore, Save, Load}
 use Rattle.oct_script.specs.declared.reply.Reply.TheVariants.{Restored, Loaded, Saved}
+use Rattle.oct_snap.specs.Reading.{Snapshot as SnapshotRead, read_snapshot, values_of}
 use Rattle.oct_values.specs.Counts.{group_count}
 use Rattle.oct_promise.specs.Lines.{IsLine, Replies, state_behind, classes_in}
+use Rattle.oct_promise.specs.Edits.{IsRestored}
 use Rattle.oct_promise.specs.Promise.{IsGivenBack, IsLoaded}
 use Rattle.oct_session.specs.Commands.{Saving}
 use Rattle.oct_session.specs.FileCommands.{snapshot_file, found_in}
@@ -109,4 +111,21 @@ pub record LoadsFile (o : Setup) (files : Option Files) (before : List Line) (li
   pub read : reading bytes ≡ Ok file
   pub counted : nodes ≡ file.nodes
   pub left : IsLoaded (data_classes file.codes) (state_behind o files before)
+      (state_behind o files (before ++ line ∷ []))
+
+-- ---- a restore of any file
+
+-- The line reads a snapshot of one of the two versions, whoever wrote it, that stands under this
+-- name and has the resolution of the session, and tells how many groups its values need. Right
+-- behind it the voxels have these.
+pub record RestoresFile (o : Setup) (files : Option Files) (before : List Line) (line : Line)
+    (name : List ℕ) (groups : ℕ) : Type 0 where
+  pub bytes : List ℕ
+  pub found : found_in (progress o files before).files name ≡ Some (Bytes bytes)
+  pub snapshot : SnapshotRead
+  pub read : read_snapshot (state_behind o files before).base.odds bytes ≡ Ok snapshot
+  pub version : (snapshot.head.version ≡ 1) ⊎ (snapshot.head.version ≡ 2)
+  pub res : snapshot.head.res ≡ o.res
+  pub counted : groups ≡ group_count (values_of snapshot)
+  pub left : IsRestored snapshot (state_behind o files before)
       (state_behind o files (before ++ line ∷ []))

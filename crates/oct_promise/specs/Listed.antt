@@ -1,5 +1,5 @@
--- What `list` and `counts` show of a state, by its voxels alone.
-use Rattle.std.specs.Prelude.{◌≡◌, ◌≢◌, ◌+◌, ◌≤◌, ◌↔◌, ℕ, ℤ, List, map, length, Option, Some}
+-- What `list` and `counts` show of a state, by its voxels alone, and which commands only ask.
+use Rattle.std.specs.Prelude.{◌≡◌, ◌≢◌, ◌+◌, ◌≤◌, ◌↔◌, ℕ, ℤ, List, map, length, Option, Some, ⊤}
 use Rattle.std.specs.List.{AllPairs, Contains}
 use Rattle.std.specs.List.Sorted.{IsStrictlySortedBy}
 use Rattle.oct_io.specs.Files.{Files}
@@ -12,6 +12,8 @@ use Rattle.oct_key.specs.declared.point.Point.{Point}
 use Rattle.oct_query.specs.Leaves.{IsLeafList}
 use Rattle.oct_query.specs.Shown.{Shown}
 use Rattle.oct_script.specs.Lines.{Line}
+use Rattle.oct_script.specs.declared.command.Command.{Command}
+use Rattle.oct_script.specs.declared.command.Command.TheVariants as command
 use Rattle.oct_script.specs.declared.reply.Reply.TheVariants.{Blocks, Counted}
 use Rattle.oct_session.specs.Setup.{Setup}
 use Rattle.oct_values.specs.Depths.{IsLargestIn}
@@ -59,3 +61,11 @@ pub record CountsNeeded (o : Setup) (files : Option Files) (bytes : List ℕ) (b
   pub nodes : ℕ
   pub told : Replies o files bytes before (Counted (record { groups = groups; nodes = nodes }))
   pub needed : AreCounted (state_behind o files before).values groups nodes
+
+-- a command that asks for something, and changes nothing
+abbrev pub IsQuestion : Command → Type 0
+IsQuestion (command.Get p depth) = ⊤
+IsQuestion (command.List from to depth) = ⊤
+IsQuestion (command.Cast from to ignore) = ⊤
+IsQuestion command.Changes = ⊤
+IsQuestion _ = ⊥

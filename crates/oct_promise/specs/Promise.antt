@@ -20,8 +20,7 @@ use Rattle.oct_script.specs.Lines.{Line}
 use Rattle.oct_script.specs.declared.reply.Refusal.TheVariants.{NotTracked, Stale}
 use Rattle.oct_script.specs.declared.reply.Reply.TheVariants.{Casted, Changed, Refused}
 use Rattle.oct_session.specs.Commands.{value_reply}
-use Rattle.oct_session.specs.History.{History, State, state_after}
-use Rattle.oct_session.specs.Session.{progress}
+use Rattle.oct_session.specs.History.{State}
 use Rattle.oct_session.specs.Setup.{Setup}
 use Rattle.oct_values.specs.Classes.{Classes}
 use Rattle.oct_values.specs.Depths.{IsLargestIn}
@@ -60,15 +59,14 @@ module _ (o : Setup) (files : Option Files) where
   abbrev pub GetsGreatest : List ℕ → List Line → Point → ℕ → Type 0
   GetsGreatest bytes before p depth = (k : Voxel) (b : Cube) → IsInMap k → Holds o.res k p
       → IsBlock b → b.depth ≡ depth → HoldsVoxel b k
-      → (depth < 16 → ¬ IsLeftStale (progress o files before).history)
+      → (depth < 16 → ¬ IsLeftStale o files before)
       → ((value : Value) × IsLargestIn (state_behind o files before).values b value
       × Replies o files bytes before (value_reply (state_behind o files before).base.odds value))
 
   -- but above a voxel it is refused while the map is stale
   abbrev pub NeedsRefresh : List ℕ → List Line → Point → ℕ → Type 0
   NeedsRefresh bytes before p depth = (k : Voxel) → IsInMap k → Holds o.res k p → depth < 16
-      → IsLeftStale (progress o files before).history
-      → Replies o files bytes before (Refused Stale)
+      → IsLeftStale o files before → Replies o files bytes before (Refused Stale)
 
   -- `cast` answers the first voxel that stops it, with its class, or clear where none does
   abbrev pub CastsFirst : List ℕ → List Line → Point → Point → Bool → Type 0
@@ -79,14 +77,14 @@ module _ (o : Setup) (files : Option Files) where
 
   -- `changes` answers how classes differ from those at the mark, where one stands
   abbrev pub TellsChanges : List ℕ → List Line → Type 0
-  TellsChanges bytes before = (earlier : History)
-      → IsMarkedBehind (progress o files before).history earlier
+  TellsChanges bytes before = (earlier : List Line) → IsMarkedBehind o files before earlier
       → ((changes : List Change)
-      × AreChanges (classes_in (state_after o earlier)) (classes_in (state_behind o files before))
-      changes × Replies o files bytes before (Changed changes))
+      × AreChanges (classes_in (state_behind o files earlier))
+      (classes_in (state_behind o files before)) changes
+      × Replies o files bytes before (Changed changes))
 
   -- and is refused where none does
   abbrev pub NeedsMark : List ℕ → List Line → Type 0
   NeedsMark bytes before =
-      ((earlier : History) → ¬ IsMarkedBehind (progress o files before).history earlier)
+      ((earlier : List Line) → ¬ IsMarkedBehind o files before earlier)
       → Replies o files bytes before (Refused NotTracked)

@@ -1,13 +1,16 @@
--- One map by many builds, each of a region, whose files are merged.
+-- One map by many builds, each of a region, whose files or maps are merged.
 use Rattle.std.specs.Prelude.{◌≡◌, ◌≤◌, ◌^◌, ℕ, List, [], ◌∷◌, ◌++◌, length, All, Option, Some}
 use Rattle.std.specs.Prelude.{true}
 use Rattle.oct_io.specs.Answer.{Answer}
 use Rattle.oct_io.specs.Files.{Files}
 use Rattle.oct_io.specs.Loaded.{loaded_of}
 use Rattle.oct_key.specs.Boxes.{Window}
+use Rattle.oct_key.specs.Values.{Values, SameValues}
+use Rattle.oct_map.specs.Merges.{merged_values}
 use Rattle.oct_merge.specs.declared.rule.Rule.{Rule}
 use Rattle.oct_script.specs.Lines.{is_in_line, ended, line_of}
-use Rattle.oct_session.specs.Building.{build}
+use Rattle.oct_session.specs.Building.{build, last_state}
+use Rattle.oct_session.specs.History.{State}
 use Rattle.oct_session.specs.Session.{lines_of}
 use Rattle.oct_session.specs.Setup.{Setup}
 use Rattle.oct_file_tasks.specs.OverStore.{found_reply}
@@ -68,3 +71,24 @@ unfoldable pub IsPlan : Setup → Option Files → List ℕ → Plan → Type 0
 IsPlan o files bytes (Region share) = IsBuilt o files bytes share
 IsPlan o files bytes (Merged rule first second) =
     IsPlan o files bytes first × IsPlan o files bytes second × AreMerged o bytes first second
+
+-- ---- maps
+
+-- the same of values, as maps are merged: those of a region, and what is merged of some and others
+unfoldable pub values_in : Setup → List ℕ → Plan → Values
+values_in o bytes (Region share) = (last_state o share.files (script_for share bytes)).values
+values_in o bytes (Merged rule first second) =
+    merged_values rule (values_in o bytes first) (values_in o bytes second)
+
+-- each region is built so; maps are merged whatever their size
+unfoldable pub AreBuilt : Setup → Option Files → List ℕ → Plan → Type 0
+AreBuilt o files bytes (Region share) = IsBuilt o files bytes share
+AreBuilt o files bytes (Merged rule first second) =
+    AreBuilt o files bytes first × AreBuilt o files bytes second
+
+-- A map has what all regions come to, and goes by the log-odds, the limits and the box of scans of
+-- the one session. (The map of a region has the box of its region.)
+pub record IsJoined (o : Setup) (files : Option Files) (bytes : List ℕ) (plan : Plan)
+    (map : State) : Type 0 where
+  pub values : SameValues map.values (values_in o bytes plan)
+  pub base : map.base ≡ (last_state o files bytes).base

@@ -31,14 +31,16 @@ ghost use Rattle.oct_promise.specs.Edits.{IsCleared, IsLimitedTo, IsUnlimited, I
 ghost use Rattle.oct_promise.specs.Edits.{IsUnmarked};
 ghost use Rattle.oct_promise.specs.Endings.{IsOverlong, HasRefusal, EndsBehind};
 ghost use Rattle.oct_promise.specs.GivenBack.{AreSaveAndLoad, LoadsBack, WritesFile, LoadsFile};
+ghost use Rattle.oct_promise.specs.GivenBack.{RestoresFile};
 ghost use Rattle.oct_promise.specs.GivenBack.{TwoLines, AreSnapshotAndRestore, GivesBack};
 ghost use Rattle.oct_promise.specs.Lines.{IsLine, Replies, state_behind, classes_in, WhereDone};
 ghost use Rattle.oct_promise.specs.Lines.{Always};
-ghost use Rattle.oct_promise.specs.Listed.{ListsBlocks, CountsNeeded};
+ghost use Rattle.oct_promise.specs.Listed.{ListsBlocks, CountsNeeded, IsQuestion};
 ghost use Rattle.oct_promise.specs.Marks.{IsLeftStale, IsMarkedBehind};
 ghost use Rattle.oct_promise.specs.Promise.{IsScanDone, GetsGreatest, CastsFirst, TellsChanges};
 ghost use Rattle.oct_promise.specs.Promise.{NeedsMark, NeedsRefresh};
 ghost use Rattle.oct_promise.specs.RegionFiles.{merge_of, Plan, Merged, boxes_of, file_of, IsPlan};
+ghost use Rattle.oct_promise.specs.RegionFiles.{values_in, AreBuilt, IsJoined};
 ghost use Rattle.oct_promise.specs.Regions.{classes_within, values_within, Cover, CoverValues};
 ghost use Rattle.oct_promise.specs.Regions.{IsRegion, HoldsPart};
 ghost use Rattle.oct_promise.specs.ScanCounts.{AreHit, AreFreed};
@@ -66,7 +68,7 @@ ghost use Rattle.oct_session.specs.FileCommands.{classes_file, snapshot_file};
 ghost use Rattle.oct_session.specs.History.{History, state_after, value_after, alone_after};
 ghost use Rattle.oct_session.specs.History.{Likened, Replaced, Restored, Tracked, Untracked};
 ghost use Rattle.oct_session.specs.History.{State, Edited, Scanned as ScannedBy, Refreshed};
-ghost use Rattle.oct_session.specs.History.{Cleared};
+ghost use Rattle.oct_session.specs.History.{Cleared, Boxed, Limited, Unlimited, Pruned};
 ghost use Rattle.oct_session.specs.Leaving.{StandsFor};
 ghost use Rattle.oct_session.specs.ScanSoFar.{ScanSoFar, sighting_so_far};
 ghost use Rattle.oct_session.specs.Session.{Progress, progress, effect_of, session};
@@ -137,6 +139,40 @@ pub fn values_are_folds()
         → value_after o history k ≡ alone_after o history k }
 {}
 
+/// The history, of which this speaks, has the commands that were accepted, one after another. A line
+/// adds to it nothing, or the action of its own command or of the scan whose block it ends, and this
+/// only where its reply is no refusal.
+pub fn lines_add_their_own()
+    ensures { (o : Setup) (p : Progress) (line : Line) → AddsOwn o p line }
+{}
+
+/// And each command that may change a state adds its action where it isn't refused, so that the
+/// history lacks none.
+pub fn histories_have_lines()
+    ensures edits { (o : Setup) (p : Point) (edit : Edit) (lazy : Bool)
+        → Adds o None (command.Edit p edit lazy) reply_of.Ok (λ a. a ≡ Edited p edit lazy) }
+    ensures scans { (o : Setup) (scan : ScanSoFar) (done : ScanDone)
+        → Adds o (Some (Scanning scan)) command.End (reply_of.Scanned done)
+        (λ a. a ≡ ScannedBy (sighting_so_far scan) scan.head.lazy) }
+    ensures boxes { (o : Setup) (from to : Point) (edit : Edit)
+        → Adds o None (command.Box from to edit) reply_of.Ok (λ a. a ≡ Boxed from to edit) }
+    ensures limit { (o : Setup) (from to : Point)
+        → Adds o None (command.Limit from to) reply_of.Ok (λ a. a ≡ Limited from to) }
+    ensures nolimit { (o : Setup) → Adds o None command.NoLimit reply_of.Ok (λ a. a ≡ Unlimited) }
+    ensures prune { (o : Setup) → Adds o None command.Prune reply_of.Ok (λ a. a ≡ Pruned) }
+    ensures refresh { (o : Setup) → Adds o None command.Refresh reply_of.Ok (λ a. a ≡ Refreshed) }
+    ensures maxlik { (o : Setup) → Adds o None command.MaxLik reply_of.Ok (λ a. a ≡ Likened) }
+    ensures clear { (o : Setup) → Adds o None command.Clear reply_of.Ok (λ a. a ≡ Cleared) }
+    ensures track { (o : Setup) → Adds o None command.Track reply_of.Ok (λ a. a ≡ Tracked) }
+    ensures untrack { (o : Setup) → Adds o None command.Untrack reply_of.Ok (λ a. a ≡ Untracked) }
+    ensures load { (o : Setup) (name : List ℕ) (nodes : ℕ)
+        → Adds o None (command.Load name) (reply_of.Loaded nodes)
+        (λ a. (classes : Classes) × (a ≡ Replaced classes)) }
+    ensures restore { (o : Setup) (name : List ℕ) (groups : ℕ)
+        → Adds o None (command.Restore name) (reply_of.Restored groups)
+        (λ a. (q : SnapshotRead) × (a ≡ Restored q)) }
+{}
+
 /// `get` at a depth answers the greatest value among the known voxels of the block of that depth
 /// that holds the point, or unknown where none is known. Above a voxel it is refused while the map
 /// is stale, and answers otherwise.
@@ -183,6 +219,19 @@ pub fn counts_are_exact()
     ensures { (o : Setup) (files : Option Files) (bytes : List ℕ) (before : List Line)
         (line : Line) → IsLine o files bytes before line None (Ok command.Counts)
         → CountsNeeded o files bytes before }
+{}
+
+/// What only asks leaves state and files as they were; `counts` prunes, and changes nothing else.
+pub fn questions_change_nothing()
+    ensures asked { (o : Setup) (files : Option Files) (bytes : List ℕ) (before : List Line)
+        (line : Line) (question : Command) → IsQuestion question
+        → IsLine o files bytes before line None (Ok question)
+        → (state_behind o files (before ++ line ∷ []) ≡ state_behind o files before)
+        × ((progress o files (before ++ line ∷ [])).files ≡ (progress o files before).files) }
+    ensures counts { (o : Setup) (files : Option Files) (bytes : List ℕ) (before : List Line)
+        (line : Line) → IsLine o files bytes before line None (Ok command.Counts)
+        → IsPruned (state_behind o files before) (state_behind o files (before ++ line ∷ []))
+        × ((progress o files (before ++ line ∷ [])).files ≡ (progress o files before).files) }
 {}
 
 /// `changes` answers how the classes of voxels differ from those at the mark, and is refused where
@@ -259,6 +308,20 @@ pub fn loads_are_exact(options: &Options)
         → (effect_of options.now (progress options.now files before) line).reply
         ≡ Some (reply_of.Loaded nodes)
         → LoadsFile options.now files before line name nodes }
+{
+    keep(options);
+}
+
+/// A restore that isn't refused, of whatever file, leaves the voxels the values that the snapshot is
+/// read as, with its log-odds and its box of scans, where it has them, and tells how many groups
+/// they need.
+pub fn restores_are_exact(options: &Options)
+    ensures { (files : Option Files) (bytes : List ℕ) (before : List Line) (line : Line)
+        (name : List ℕ) (groups : ℕ)
+        → IsLine options.now files bytes before line None (Ok (command.Restore name))
+        → (effect_of options.now (progress options.now files before) line).reply
+        ≡ Some (reply_of.Restored groups)
+        → RestoresFile options.now files before line name groups }
 {
     keep(options);
 }
@@ -380,48 +443,22 @@ pub fn marks_are_exact()
     ensures untrack { (o : Setup) → Always o command.Untrack IsUnmarked }
 {}
 
-/// A mark stands exactly since a `track` behind which there was no other one, no `untrack`, and no
-/// accepted clear, load or restore, and has the classes that were there at that `track`.
+/// A mark stands behind some lines exactly where one of them is a `track` behind which there is no
+/// other one, no `untrack`, and no clear, load or restore that wasn't refused. It has the classes
+/// that were there at that `track`.
 pub fn marks_live()
-    ensures { (o : Setup) (history : History) (c : Classes)
-        → ((state_after o history).marked ≡ Some c)
-        ↔ ((earlier : History) × IsMarkedBehind history earlier
-        × (c ≡ classes_in (state_after o earlier))) }
+    ensures { (o : Setup) (files : Option Files) (lines : List Line) (c : Classes)
+        → ((state_behind o files lines).marked ≡ Some c)
+        ↔ ((before : List Line) × IsMarkedBehind o files lines before
+        × (c ≡ classes_in (state_behind o files before))) }
 {}
 
-/// A map is stale exactly where a lazy edit or scan was accepted behind which there was no refresh,
-/// `maxlik`, clear, load or restore that was accepted.
+/// A map is stale behind some lines exactly where one of them is a lazy edit or the end of a lazy
+/// scan that wasn't refused, behind which there is no refresh, `maxlik`, clear, load or restore
+/// that wasn't.
 pub fn maps_are_stale()
-    ensures { (o : Setup) (history : History)
-        → ((state_after o history).is_stale ≡ true) ↔ IsLeftStale history }
-{}
-
-/// What these speak of, the history, has the accepted commands one after another. A line adds to it
-/// nothing, or the action of its own command or of the scan whose block it ends, and this only
-/// where its reply is no refusal.
-pub fn lines_add_their_own()
-    ensures { (o : Setup) (p : Progress) (line : Line) → AddsOwn o p line }
-{}
-
-/// And a command that sets or ends a mark, or makes a map stale or fresh, adds its action where it
-/// isn't refused.
-pub fn histories_have_lines()
-    ensures edits { (o : Setup) (p : Point) (edit : Edit) (lazy : Bool)
-        → Adds o None (command.Edit p edit lazy) reply_of.Ok (λ a. a ≡ Edited p edit lazy) }
-    ensures scans { (o : Setup) (scan : ScanSoFar) (done : ScanDone)
-        → Adds o (Some (Scanning scan)) command.End (reply_of.Scanned done)
-        (λ a. a ≡ ScannedBy (sighting_so_far scan) scan.head.lazy) }
-    ensures refresh { (o : Setup) → Adds o None command.Refresh reply_of.Ok (λ a. a ≡ Refreshed) }
-    ensures maxlik { (o : Setup) → Adds o None command.MaxLik reply_of.Ok (λ a. a ≡ Likened) }
-    ensures clear { (o : Setup) → Adds o None command.Clear reply_of.Ok (λ a. a ≡ Cleared) }
-    ensures track { (o : Setup) → Adds o None command.Track reply_of.Ok (λ a. a ≡ Tracked) }
-    ensures untrack { (o : Setup) → Adds o None command.Untrack reply_of.Ok (λ a. a ≡ Untracked) }
-    ensures load { (o : Setup) (name : List ℕ) (nodes : ℕ)
-        → Adds o None (command.Load name) (reply_of.Loaded nodes)
-        (λ a. (classes : Classes) × (a ≡ Replaced classes)) }
-    ensures restore { (o : Setup) (name : List ℕ) (groups : ℕ)
-        → Adds o None (command.Restore name) (reply_of.Restored groups)
-        (λ a. (q : SnapshotRead) × (a ≡ Restored q)) }
+    ensures { (o : Setup) (files : Option Files) (lines : List Line)
+        → ((state_behind o files lines).is_stale ≡ true) ↔ IsLeftStale o files lines }
 {}
 
 // ---- the page of regions
@@ -463,6 +500,25 @@ pub fn regions_join_to_one(options: &Options)
         → IsPlan options.now files bytes plan
         → Cover (boxes_of plan) (classes_in (last_state options.now files bytes))
         → file_of options.now bytes plan ≡ (build options.now files bytes).text }
+{
+    keep(options);
+}
+
+/// Whatever the regions, and the order and the rules of the merges: where the boxes leave out no
+/// voxel that one session knows, the maps of regions are merged to its values. So the snapshot of a
+/// map that has these, with the log-odds and the box of scans of that session, is its own snapshot,
+/// byte for byte. (What is merged has the box of the first region, until a `nolimit`.)
+pub fn maps_join_to_one<F: Store>(options: &Options, store: &F)
+    ensures values { (bytes : List ℕ) (plan : Plan)
+        → AreBuilt options.now (F.files store.now) bytes plan
+        → CoverValues (boxes_of plan) (last_state options.now (F.files store.now) bytes).values
+        → SameValues (values_in options.now bytes plan)
+        (last_state options.now (F.files store.now) bytes).values }
+    ensures snapshots { (bytes : List ℕ) (plan : Plan)
+        → AreBuilt options.now (F.files store.now) bytes plan
+        → CoverValues (boxes_of plan) (last_state options.now (F.files store.now) bytes).values
+        → (map : State) → IsJoined options.now (F.files store.now) bytes plan map
+        → snapshot_file map ≡ snapshot_file (last_state options.now (F.files store.now) bytes) }
 {
     keep(options);
 }
