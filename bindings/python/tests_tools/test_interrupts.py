@@ -38,6 +38,20 @@ def say(text):
 command.say = say
 _program.run()
 """
+# A signal as soon as one is heard.
+EARLY = """
+import os, signal
+from octofix._program import run
+hear, heard = signal.signal, []
+def come(number, handler):
+    before = hear(number, handler)
+    if number == signal.SIGINT and not heard:
+        heard.append(number)
+        os.kill(os.getpid(), number)
+    return before
+signal.signal = come
+run()
+"""
 # A second signal on the way from where the first one is raised to the end.
 ON_THE_WAY = """
 import os, signal
@@ -254,6 +268,10 @@ class Start(Processes):
         self.before.add("argparse.py")
         for words in (["-m", "octofix"], ["-c", "from octofix.__main__ import run; run()"]):
             self.ends(self.start(*words, "info", "a.bt"), "", BY_CTRL_C)
+
+    def test_as_soon_as_signals_are_heard(self):
+        run = self.start("-c", EARLY, "info", "wanted.bt")
+        self.ends(run, "octofix: stopped by Ctrl-C\n", BY_CTRL_C)
 
     def test_while_a_library_is_imported(self):
         """Which turns what is raised into a fault of its own."""

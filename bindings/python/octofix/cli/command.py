@@ -84,6 +84,7 @@ def main(commands, words=None):
     """Runs a subcommand, and answers its exit status."""
     with INTERRUPTS.heard():
         try:
+            INTERRUPTS.waits_for = None
             return _run(commands, words)
         except Abandoned:
             INTERRUPTS.waits_for = END

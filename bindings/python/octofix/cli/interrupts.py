@@ -39,8 +39,10 @@ class Interrupts:
 
     @contextlib.contextmanager
     def heard(self):
-        """Hears the signals; in the main thread, which alone can."""
+        """Hears the signals; in the main thread, which alone can. At first they wait, as at START:
+        who called this isn't there for them yet."""
         self._forget()
+        self.waits_for = START
         before, hook = {}, sys.unraisablehook
         try:
             if threading.current_thread() is threading.main_thread():
