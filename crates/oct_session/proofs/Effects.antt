@@ -1,12 +1,15 @@
 -- What a line does, and where desk and session then stand.
-use Rattle.std.proofs.Common.{◌≡◌, ℕ, ◌+◌, ◌≤◌, List, [], ◌∷◌, ◌++◌, ◌||◌, Bool, true, false, cond}
-use Rattle.std.proofs.Common.{is_some, IsSome, IsErr, Some, None, refl, Option, Result, Ok, Err}
-use Rattle.std.proofs.Common.{IsErrAnd, inl, inr, sym, ap, subst, ◌∙◌, arith}
+use Rattle.std.proofs.Common.{◌≡◌, ℕ, ◌+◌, ◌≤◌, List, [], ◌++◌, ◌||◌, ◌⊎◌, Bool, true, false}
+use Rattle.std.proofs.Common.{cond, is_some, IsSome, IsErr, Some, None, refl, Option, Result, Ok}
+use Rattle.std.proofs.Common.{Err}
+use Rattle.std.proofs.Common.{IsErrAnd, OnOk, OnErr, inl, inr, sym, ap, subst, ◌∙◌, arith}
+use Rattle.std.specs.Prelude.{⊤}
 use Rattle.oct_io.specs.Counts.{IsAskCounted}
 use Rattle.oct_io.specs.Files.{Files}
 use Rattle.oct_io.specs.declared.store.Store as store
 use Rattle.oct_io.specs.declared.store.StoreFault.{StoreFault}
 use Rattle.oct_io.specs.declared.store.StoreFault.TheVariants as store_fault
+use Rattle.oct_key.specs.declared.point.Point.{Point}
 use Rattle.oct_map.specs.Map.{Map}
 use Rattle.oct_script.specs.declared.command.Command.{Command}
 use Rattle.oct_script.specs.declared.command.ScanHead.{ScanHead}
@@ -17,21 +20,17 @@ use Rattle.oct_script.specs.Replies.{is_refusal}
 use Rattle.oct_session.specs.declared.scan_block.ScanBlock.{ScanBlock}
 use Rattle.oct_session.specs.declared.scan_block.ScanBlock.TheVariants.{Scanning, Spoilt}
 use Rattle.oct_script.specs.declared.verbs.FileVerb.{FileVerb}
-use Rattle.oct_session.specs.Kinds.{Kind, Nothing, Opens, Adds, Closes, Orders, Asks as AsksMap}
-use Rattle.oct_session.specs.Kinds.{Names, kind_of, left_of, rest_seen}
-use Rattle.oct_session.specs.declared.kinds.Rest as lent
-use Rattle.oct_session.specs.declared.kinds.Rest.TheVariants as rest
-use Rattle.oct_session.specs.declared.lent.Lent.{Lent}
+use Rattle.oct_session.specs.Kinds.{Kind, Nothing, Opens, Adds, Closes, Names, kind_of}
+use Rattle.oct_session.specs.declared.context.Context.{Context}
 use Rattle.oct_session.specs.declared.lines.Parsed.{Parsed}
 use Rattle.oct_session.specs.declared.session.Session.{Session}
 use Rattle.oct_session.specs.Moments.{Works, UsesFile, HasParsed}
-use Rattle.oct_session.specs.Parsed.{command_in, TellsOpening}
-use Rattle.oct_session.specs.Commands.{FileWork, Saving, command_on, is_quit, asked_of}
+use Rattle.oct_session.specs.Parsed.{command_in, read_as, TellsOpening}
+use Rattle.oct_session.specs.Commands.{Saving, command_on, is_quit, asked_of}
 use Rattle.oct_session.specs.Commands.{kind_work, verb_work, file_named, asks_for}
-use Rattle.oct_session.specs.Commands.{map_reply, map_action, order_reply, order_action}
-use Rattle.oct_session.specs.Commands.{question_reply, question_action}
 use Rattle.oct_session.specs.Commands.{accepted, accepted_saving, stored}
-use Rattle.oct_session.specs.ScanBlock.{opens_block, opened, kind_opened, is_end, with_line}
+use Rattle.oct_session.specs.ScanBlock.{opens_block, opened, kind_opened, is_end, does_close}
+use Rattle.oct_session.specs.ScanBlock.{with_line, with_kind, block_with, GainsPoint}
 use Rattle.oct_session.specs.ScanBlock.{spoilt_by, spoilt_reply, block_reply, block_action}
 use Rattle.oct_session.specs.ScanSoFar.{begun}
 use Rattle.oct_session.specs.History.{History, State, after_all, state_after}
@@ -136,6 +135,46 @@ effect_taken r m n number c old taken new standing end none took is done first w
     let same : standing ≡ first = cc in
     effect_closed r m n number c first new end none (subst (λ x. HasScanned m n x r) same done)
 
+-- the block with a command more, by what does that
+with_kind_of : (number : ℕ) (c : Command) (k : Kind) (first : ScanBlock) → kind_of c ≡ k
+    → with_line number (Ok c) first ≡ block_with number k first
+with_kind_of number c k (Spoilt refusal) is = refl
+with_kind_of number c k (Scanning scan) is = ap (λ x. with_kind number x scan) is
+
+-- a point was added to the block, or memory ran out for it
+pub point_worked : {T E : Type 0} (r : Result T E) (m : Map) (number : ℕ) (c : Command) (p : Point)
+    (first : ScanBlock) (new : Option ScanBlock) (a : Option Reply) → kind_of c ≡ Adds p → a ≡ None
+    → OnOk r (new ≡ Some (block_with number (Adds p) first))
+    → OnErr r (GainsPoint (Some first) (Some (block_with number (Adds p) first)))
+    → HasWorked (λ s. effect_inside s number (Ok c) first) first m m new (with_reply r a)
+point_worked (Ok x) m number c p first new a is silent done short = λ s at.
+    let goes_on : is_end (Ok c) ≡ false = ap does_close is in
+    rw goes_on (silent, done ∙ ap Some (sym (with_kind_of number c (Adds p) first is)), at)
+point_worked (Err x) m number c p first new a is silent done short = λ s at.
+    let goes_on : is_end (Ok c) ≡ false = ap does_close is in
+    rw goes_on (
+      inr (subst (λ b. GainsPoint (Some first) (Some b))
+          (sym (with_kind_of number c (Adds p) first is)) short),
+      at,
+    )
+
+-- a command that neither adds a point nor closes the block changes nothing in it
+abbrev pub StaysInBlock : Kind → Type 0
+StaysInBlock k = (does_close k ≡ false)
+    × ((number : ℕ) (first : ScanBlock) → block_with number k first ≡ first)
+
+pub nothing_worked : (m : Map) (number : ℕ) (c : Command) (k : Kind) (first : ScanBlock)
+    (new : Option ScanBlock) (a : Option Reply) → kind_of c ≡ k → StaysInBlock k → a ≡ None
+    → new ≡ Some first
+    → HasWorked {E = ⊤} (λ s. effect_inside s number (Ok c) first) first m m new (Ok a)
+nothing_worked m number c k first new a is stays silent kept = λ s at.
+    let goes_on : is_end (Ok c) ≡ false = ap does_close is ∙ stays.0 in
+    rw goes_on (
+      silent,
+      kept ∙ ap Some (sym (with_kind_of number c k first is ∙ stays.1 number first)),
+      at,
+    )
+
 -- a line in a block, with the files that stand by
 pub inside_done : (m n : Map) (f : Option Files) (number : ℕ) (line : Line)
     (c : Result Command Refusal) (old new : Option ScanBlock) (a : Option Reply)
@@ -182,7 +221,7 @@ stands_inside r m n number c (Some first) new some works =
     stands_where_worked r m n first new (λ s. effect_inside s number c first) (works first refl)
 
 -- what was answered and done on the map alone, with the files that stand by
-map_done : (m n : Map) (f : Option Files) (block : Option ScanBlock) (a : Option Reply)
+pub map_done : (m n : Map) (f : Option Files) (block : Option ScanBlock) (a : Option Reply)
     (reply : State → Option Reply) (actions : State → History) → block ≡ None
     → HasAnswered reply actions m n a →
     TakesEffect (λ files s. replied (reply s) (actions s) None) None m f n f block a
@@ -209,164 +248,73 @@ map_failed x m n f block reply actions memory kept = λ files s finds at.
     )
 
 -- what comes of a command outside a block, by what does it
-abbrev KindEffect : ℕ → Kind → Option Files → State → Effect
+abbrev pub KindEffect : ℕ → Kind → Option Files → State → Effect
 KindEffect number k files s = unless_opened (effect_of_kind files s k) (kind_opened number k)
 
--- the map's part in a command was done or answered
-abbrev pub HasPart : Kind → Map → Map → Option Reply → Type 0
-HasPart k m n a = HasAnswered (λ s. map_reply s k) (λ s. map_action k) m n a
-
--- so it was for what does a command, where it was for what was seen to do it
-pub part_as : (m n : Map) (k seen : Kind) (a : Option Reply) → seen ≡ k → HasPart seen m n a
-    → HasPart k m n a
-part_as m n k seen a is done = subst (λ x. HasPart x m n a) is done
-
-pub done_as : {E : Type 0} (r : Result (Option Reply) E) (m n : Map) (k seen : Kind) → seen ≡ k
-    → HasDone (λ s. map_reply s seen) (λ s. map_action seen) m n r
-    → HasDone (λ s. map_reply s k) (λ s. map_action k) m n r
-done_as r m n k seen is done =
-    subst (λ x. HasDone (λ s. map_reply s x) (λ s. map_action x) m n r) is done
-
--- what is left where the map has no part
-pub rest_left : (x : lent.Rest) → rest_seen x ≡ left_of (rest_seen x)
-rest_left rest.Nothing = refl
-rest_left (rest.Opens head) = refl
-rest_left (rest.Names verb name) = refl
-
--- a part of which nothing is left
-pub part_done : (m n : Map) (f : Option Files) (number : ℕ) (k : Kind) (block : Option ScanBlock)
-    (a : Option Reply) → Nothing ≡ left_of k → block ≡ None → HasPart k m n a
-    → HasEffect (KindEffect number k) (kind_work k) None m f n f block (Ok a)
-part_done m n f number Nothing block a is closed done =
-    map_done m n f block a (λ s. None) (λ s. []) closed done
-part_done m n f number (Adds p) block a is closed done =
-    map_done m n f block a (λ s. None) (λ s. []) closed done
-part_done m n f number Closes block a is closed done =
-    map_done m n f block a (λ s. None) (λ s. []) closed done
-part_done m n f number (Orders o) block a is closed done =
-    map_done m n f block a (λ s. order_reply s o) (λ s. order_action o ∷ []) closed done
-part_done m n f number (AsksMap q) block a is closed done =
-    map_done m n f block a (λ s. question_reply s q) (λ s. question_action q) closed done
-part_done m n f number (Opens head) block a is closed done = cc
-part_done m n f number (Names v name) block a is closed done = cc
-
-none_failed : (m n : Map) (e : Option Files → State → Effect) (w : Option FileWork)
-    (f g : Option Files) (block : Option ScanBlock) (x : StoreFault) →
-    ((s : State) → StandsFor m s → IsSome (map_reply s Nothing) × StandsFor n s)
-    → HasEffect e w None m f n g block (Err x)
-none_failed m n e w f g block x kept = λ files s finds at.
-    let some = (kept s at.stands).0 in cc
-
-part_stopped : (x : StoreFault) (m n : Map) (f : Option Files) (number : ℕ) (k : Kind)
-    (block : Option ScanBlock) → x ≡ store_fault.Memory →
-    ((s : State) → StandsFor m s → IsSome (map_reply s k) × StandsFor n s)
-    → HasEffect (KindEffect number k) (kind_work k) None m f n f block (Err x)
-part_stopped x m n f number (Orders o) block memory kept =
-    map_failed x m n f block (λ s. order_reply s o) (λ s. order_action o ∷ []) memory kept
-part_stopped x m n f number (AsksMap q) block memory kept =
-    map_failed x m n f block (λ s. question_reply s q) (λ s. question_action q) memory kept
-part_stopped x m n f number Nothing block memory kept =
-    none_failed m n (KindEffect number Nothing) None f f block x kept
-part_stopped x m n f number (Adds p) block memory kept =
-    none_failed m n (KindEffect number (Adds p)) None f f block x kept
-part_stopped x m n f number Closes block memory kept =
-    none_failed m n (KindEffect number Closes) None f f block x kept
-part_stopped x m n f number (Opens head) block memory kept =
-    none_failed m n (KindEffect number (Opens head)) None f f block x kept
-part_stopped x m n f number (Names v name) block memory kept =
-    none_failed m n (KindEffect number (Names v name)) (Some (verb_work v name)) f f block x kept
-
 -- for which memory ran out
-pub part_failed : (r : Result (Option Reply) StoreFault) (m n : Map) (f : Option Files)
-    (number : ℕ) (k : Kind) (block : Option ScanBlock) → IsErrAnd r (λ x. x ≡ store_fault.Memory) →
-    ((s : State) → StandsFor m s → IsSome (map_reply s k) × StandsFor n s)
-    → HasEffect (KindEffect number k) (kind_work k) None m f n f block r
-part_failed (Ok a) m n f number k block memory kept = absurd memory
-part_failed (Err x) m n f number k block memory kept =
-    part_stopped x m n f number k block memory kept
+pub map_ran_out : (r : Result (Option Reply) StoreFault) (m n : Map) (f : Option Files)
+    (block : Option ScanBlock) (reply : State → Option Reply) (actions : State → History)
+    → IsErrAnd r (λ x. x ≡ store_fault.Memory) →
+    ((s : State) → StandsFor m s → IsSome (reply s) × StandsFor n s)
+    → HasEffect (λ files s. replied (reply s) (actions s) None) None None m f n f block r
+map_ran_out (Ok a) m n f block reply actions memory kept = absurd memory
+map_ran_out (Err x) m n f block reply actions memory kept =
+    map_failed x m n f block reply actions memory kept
 
--- a block that is left to be opened
-pub opens_all : (k : Kind) (head : ScanHead) → Opens head ≡ left_of k → Opens head ≡ k
-opens_all Nothing head is = cc
-opens_all (Opens other) head is = is
-opens_all (Adds p) head is = cc
-opens_all Closes head is = cc
-opens_all (Orders o) head is = cc
-opens_all (AsksMap q) head is = cc
-opens_all (Names v name) head is = cc
+-- nothing has to be done for this outside a block
+abbrev pub IsIdleKind : Kind → Type 0
+IsIdleKind k = (k ≡ Nothing) ⊎ (((p : Point) × (k ≡ Adds p)) ⊎ (k ≡ Closes))
 
--- a file that is left to be used
-pub names_all : (k : Kind) (verb : FileVerb) (name : List ℕ) → Names verb name ≡ left_of k
-    → Names verb name ≡ k
-names_all Nothing verb name is = cc
-names_all (Opens head) verb name is = cc
-names_all (Adds p) verb name is = cc
-names_all Closes verb name is = cc
-names_all (Orders o) verb name is = cc
-names_all (AsksMap q) verb name is = cc
-names_all (Names v other) verb name is = is
+-- and nothing is
+nothing_done : (m : Map) (f : Option Files) (block : Option ScanBlock) (a : Option Reply)
+    → block ≡ None → a ≡ None
+    → HasEffect (λ files s. replied None [] None) None None m f m f block (Ok a)
+nothing_done m f block a closed silent = λ files s finds at.
+    (silent, closed, record { stands = at.stands; told = at.told })
 
--- a map that had no part stands for the same
-stands_still : (m n : Map) (a : Option Reply) → HasAnswered (λ s. None) (λ s. []) m n a
-    → (s : State) → StandsFor m s → StandsFor n s
-stands_still m n a done s at = let took = done s at in
-    subst (λ x. StandsFor n (after_all s (accepted x []))) took.0 took.1
+pub idle_done : (m : Map) (f : Option Files) (number : ℕ) (k : Kind) (block : Option ScanBlock)
+    (a : Option Reply) → IsIdleKind k → block ≡ None → a ≡ None
+    → HasEffect (KindEffect number k) (kind_work k) None m f m f block (Ok a)
+idle_done m f number k block a (inl is) closed silent =
+    subst (λ x. HasEffect (KindEffect number x) (kind_work x) None m f m f block (Ok a)) (sym is)
+    (nothing_done m f block a closed silent)
+idle_done m f number k block a (inr (inl (p, is))) closed silent =
+    subst (λ x. HasEffect (KindEffect number x) (kind_work x) None m f m f block (Ok a)) (sym is)
+    (nothing_done m f block a closed silent)
+idle_done m f number k block a (inr (inr is)) closed silent =
+    subst (λ x. HasEffect (KindEffect number x) (kind_work x) None m f m f block (Ok a)) (sym is)
+    (nothing_done m f block a closed silent)
 
 -- a block was opened
-pub head_opened : (m n : Map) (f : Option Files) (number : ℕ) (head : ScanHead)
+pub head_opened : (m : Map) (f : Option Files) (number : ℕ) (head : ScanHead)
     (block : Option ScanBlock) (a : Option Reply) → block ≡ Some (Scanning (begun number head))
-    → HasPart (Opens head) m n a
-    → HasEffect (KindEffect number (Opens head)) None None m f n f block (Ok a)
-head_opened m n f number head block a is done = λ files s finds at. (
-  (done s at.stands).0,
-  is,
-  record { stands = stands_still m n a done s at.stands; told = at.told },
-)
-
--- something had its effect on a map that stands for what another map stands for
-effect_before : (e : Option Files → State → Effect) (w : Option FileWork)
-    (r : Result (Option Reply) StoreFault) (m l n : Map) (f g : Option Files)
-    → ((s : State) → StandsFor m s → StandsFor l s)
-    → HasEffect e w None l f n g None r → HasEffect e w None m f n g None r
-effect_before e w (Ok b) m l n f g kept took = λ files s finds at.
-    took files s finds (record { stands = kept s at.stands; told = at.told })
-effect_before e w (Err x) m l n f g kept took = λ files s finds at.
-    took files s finds (record { stands = kept s at.stands; told = at.told })
+    → a ≡ None → HasEffect (KindEffect number (Opens head)) None None m f m f block (Ok a)
+head_opened m f number head block a is silent = λ files s finds at.
+    (silent, is, record { stands = at.stands; told = at.told })
 
 -- a verb with the name of a file had its effect where no block is open
-pub verb_used : {K F T : Type 0} (ghosts : store.Ghosts F) (m : Map) (f : Option Files)
-    (l e : Lent K F) (r : Result T StoreFault) (number : ℕ) (verb : FileVerb) (name : List ℕ)
-    (block : Option ScanBlock) (a b : Option Reply) → block ≡ None
-    → HasPart (Names verb name) m l.map.now a → f ≡ ghosts.files l.store.now
-    → UsesFile ghosts verb name l e r b
-    → HasEffect (KindEffect number (Names verb name)) (Some (verb_work verb name)) None m f
-    e.map.now (ghosts.files e.store.now) block (with_reply r b)
-verb_used ghosts m f l e r number verb name block a b closed done same used =
-    subst (λ x. HasEffect (λ files s. effect_of_kind files s (Names verb name))
-    (Some (verb_work verb name)) None m f e.map.now (ghosts.files e.store.now) x (with_reply r b))
-    (sym closed)
-    (subst (λ x. HasEffect (λ files s. effect_of_kind files s (Names verb name))
-    (Some (verb_work verb name)) None m x e.map.now (ghosts.files e.store.now) None
-    (with_reply r b)) (sym same)
-    (effect_before (λ files s. effect_of_kind files s (Names verb name))
-    (Some (verb_work verb name)) (with_reply r b) m l.map.now e.map.now
-    (ghosts.files l.store.now) (ghosts.files e.store.now)
-    (stands_still m l.map.now a done) used.took))
+pub verb_used : {K F T : Type 0} (ghosts : store.Ghosts F) (d e : Context K F)
+    (r : Result T StoreFault) (a : Option Reply) (number : ℕ) (verb : FileVerb) (name : List ℕ)
+    (block : Option ScanBlock) → block ≡ None → UsesFile ghosts verb name d e r a
+    → Works ghosts (KindEffect number (Names verb name)) (kind_work (Names verb name)) None block
+    d e r a
+verb_used ghosts d e r a number verb name block closed used =
+    subst (λ x. Works ghosts (λ files s. effect_of_kind files s (Names verb name))
+    (Some (verb_work verb name)) None x d e r a) (sym closed) used
 
--- a map that had its part stands for some history, as before
-pub some_part : {E : Type 0} (r : Result (Option Reply) E) (m n : Map) (k : Kind)
-    → HasDone (λ s. map_reply s k) (λ s. map_action k) m n r → KeepsStanding m n
-some_part r m n k done = stands_where_done r m n (λ s. map_reply s k) (λ s. map_action k) done
+-- no refusal was read
+pub none_read : (refusal : Option Refusal) → ((x : Refusal) → refusal ≡ Some x → ⊥)
+    → refusal ≡ None
+none_read None not = refl
+none_read (Some x) not = absurd (not x refl)
 
--- a call does what a verb says where it does what another one says that is the same
-pub used_as : {K F T : Type 0} (ghosts : store.Ghosts F) (d e : Lent K F)
-    (r : Result T StoreFault) (a : Option Reply) (verb read : FileVerb) (name : List ℕ)
-    → verb ≡ read → UsesFile ghosts read name d e r a → UsesFile ghosts verb name d e r a
-used_as ghosts d e r a verb read name is used =
-    subst (λ x. UsesFile ghosts x name d e r a) (sym is) used
+-- no block is open
+pub none_open : (block : Option ScanBlock) → is_some block ≡ false → block ≡ None
+none_open None is = refl
+none_open (Some inner) is = cc
 
 -- a call that does a command outside a block does what does it
-pub works_by_kind : {K F T : Type 0} (ghosts : store.Ghosts F) (d e : Lent K F)
+pub works_by_kind : {K F T : Type 0} (ghosts : store.Ghosts F) (d e : Context K F)
     (r : Result T StoreFault) (a : Option Reply) (number : ℕ) (line : Line) (c : Command) (k : Kind)
     (block : Option ScanBlock) → k ≡ kind_of c
     → Works ghosts (KindEffect number k) (kind_work k) None block d e r a
@@ -431,13 +379,13 @@ fault_taken m f number line opens refusal (Some block) new a so is told =
 
 -- a line of a call
 abbrev pub WorksAt : {K F T : Type 0} → store.Ghosts F → ℕ → Line → Result Command Refusal
-    → Option ScanBlock → Option ScanBlock → Lent K F → Lent K F → Result T StoreFault
+    → Option ScanBlock → Option ScanBlock → Context K F → Context K F → Result T StoreFault
     → Option Reply → Type 0
 WorksAt ghosts number line c old new d e r a =
     Works ghosts (λ files s. effect files s number line c old) (asked_of c) old new d e r a
 
 -- by the command that was read of it
-pub works_as_read : {K F T : Type 0} (ghosts : store.Ghosts F) (d e : Lent K F)
+pub works_as_read : {K F T : Type 0} (ghosts : store.Ghosts F) (d e : Context K F)
     (r : Result T StoreFault) (a : Option Reply) (number : ℕ) (line : Line)
     (c read : Result Command Refusal) (old new : Option ScanBlock) → c ≡ read
     → WorksAt ghosts number line read old new d e r a → WorksAt ghosts number line c old new d e r a
@@ -445,13 +393,26 @@ works_as_read ghosts d e r a number line c read old new is took =
     subst (λ x. WorksAt ghosts number line x old new d e r a) (sym is) took
 
 -- where no block is open
-pub works_before : {K F T : Type 0} (ghosts : store.Ghosts F) (d e : Lent K F)
+pub works_before : {K F T : Type 0} (ghosts : store.Ghosts F) (d e : Context K F)
     (r : Result T StoreFault) (a : Option Reply) (number : ℕ) (line : Line)
     (c : Result Command Refusal) (old new : Option ScanBlock) → is_some old ≡ false
     → Works ghosts (λ files s. effect_opened files s c (opened number line c)) (asked_of c) None new
     d e r a → WorksAt ghosts number line c old new d e r a
 works_before ghosts d e r a number line c (Some inner) new none took = cc
 works_before ghosts d e r a number line c None new none took = took
+
+-- so does one that does what was read of a line outside a block
+pub line_by_kind : {K F T : Type 0} (ghosts : store.Ghosts F) (d e : Context K F)
+    (r : Result T StoreFault) (a : Option Reply) (parsed : Parsed) (line : Line) (k : Kind)
+    (old new : Option ScanBlock) → parsed.refusal ≡ None → is_some old ≡ false
+    → k ≡ kind_of parsed.command
+    → Works ghosts (KindEffect parsed.number k) (kind_work k) None new d e r a
+    → WorksAt ghosts parsed.number line (command_in parsed) old new d e r a
+line_by_kind ghosts d e r a parsed line k old new read closed is took =
+    works_as_read ghosts d e r a parsed.number line (command_in parsed) (Ok parsed.command) old new
+    (ap (read_as parsed.command) read)
+    (works_before ghosts d e r a parsed.number line (Ok parsed.command) old new closed
+    (works_by_kind ghosts d e r a parsed.number line parsed.command k new is took))
 
 -- the command that was read is that of the next line
 pub same_command : (s : Session) (line : Line) (p : Progress) (c : Result Command Refusal)
@@ -505,7 +466,7 @@ parsed_next s line parsed inside running numbered read is opens = record {
 
 -- so it was by a call that did the next line, of which this was read
 pub worked : {K F T : Type 0} (ghosts : store.Ghosts F) (s : Session) (line : Line)
-    (parsed : Parsed) (block : Option ScanBlock) (d e : Lent K F) (r : Result T StoreFault)
+    (parsed : Parsed) (block : Option ScanBlock) (d e : Context K F) (r : Result T StoreFault)
     (a : Option Reply) → HasParsed s line parsed
     → WorksAt ghosts parsed.number line (command_in parsed) s.block block d e r a
     → IsWorked s line (command_in parsed) d.map.now e.map.now (ghosts.files d.store.now)

@@ -39,7 +39,7 @@ use Rattle.oct_script.specs.Replies.{file_refusal}
 use Rattle.oct_session.specs.Session.{Effect, replied}
 use Rattle.oct_session.specs.Standing.{HasAnswered, HasDone, HasEffect, HasFailed, FindsTold}
 use Rattle.oct_session.specs.Standing.{TakesEffect}
-use Rattle.oct_session.specs.declared.lent.Lent.{Lent}
+use Rattle.oct_session.specs.declared.context.Context.{Context}
 use Rattle.oct_session.proofs.Effects.{ran_out, same_files, saves_none, unasked}
 use Rattle.oct_session.proofs.MapHistory.{stands_replaced}
 use Rattle.oct_session.proofs.Readings.{IsTold, reading_told}
@@ -260,6 +260,12 @@ pub classes_saved : (m : Map) (bytes : List ℕ) → bytes ≡ bt_text m.tree.re
     → IsFileOf m classes_file bytes
 classes_saved m bytes is s at = is ∙ same_file m s at
 
+pub classes_made : {V E : Type 0} (m : Map) (made : Result V E) (items : V → List ℕ)
+    → IfOk made (λ v. items v ≡ bt_text m.tree.res (classes_in m.tree))
+    → IfOk made (λ v. IsFileOf m classes_file (items v))
+classes_made m (Ok v) items is = classes_saved m (items v) is
+classes_made m (Err x) items is = tt
+
 -- a file that the store took
 pub save_done : (w : Option FileWork) (m : Map) (f g : Option Files)
     (key name bytes : List ℕ) (n : ℕ) (file : State → List ℕ) → key ≡ name → IsFileOf m file bytes
@@ -294,7 +300,7 @@ save_failed w (Err x) fault m f g key name file named saves spelt is others same
 
 -- one that memory ran out for before the store was asked
 pub save_unasked : {K F T : Type 0} (ghosts : store.Ghosts F) (file : State → List ℕ)
-    (name : List ℕ) (d : Lent K F) (r : Result T StoreFault) (a : Option Reply)
+    (name : List ℕ) (d : Context K F) (r : Result T StoreFault) (a : Option Reply)
     → IsErrAnd r (λ x. x ≡ store_fault.Memory) → SavesFile ghosts file name d d r a
 save_unasked ghosts file name d (Ok x) a memory = absurd memory
 save_unasked ghosts file name d (Err x) a memory = record {

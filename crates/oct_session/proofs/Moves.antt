@@ -26,7 +26,7 @@ use Rattle.oct_session.specs.Standing.{HasMoved, HoldsLine, IsShort}
 use Rattle.oct_session.specs.Standing.{seated, KeepsStanding}
 use Rattle.oct_session.specs.Setup.{Setup}
 use Rattle.oct_script.specs.declared.reply.Reply.{Reply}
-use Rattle.oct_session.specs.declared.lent.Lent.{Lent}
+use Rattle.oct_session.specs.declared.context.Context.{Context}
 use Rattle.oct_session.specs.declared.lines.Parsed.{Parsed}
 use Rattle.oct_session.specs.declared.scan_block.ScanBlock.{ScanBlock}
 use Rattle.oct_session.specs.declared.session.Session.{Session}
@@ -297,9 +297,9 @@ pub record IsBesideSink {F : Type 0} (line : Line) (a b : Moment F) : Type 0 whe
       ≡ false → b.store_faults ≡ a.store_faults
   pub same : b.session.line ≡ a.session.line
 
--- so it does where it does the line on what it is lent
+-- so it does where it does the line in its context
 pub beside_sink : {K F T : Type 0} (sinks : sink.Ghosts K) (stores : store.Ghosts F)
-    (d e : Lent K F) (s t : Session) (line : Line) (parsed : Parsed) (block : Option ScanBlock)
+    (d e : Context K F) (s t : Session) (line : Line) (parsed : Parsed) (block : Option ScanBlock)
     (r : Result T StoreFault) (a : Option Reply) → HasParsed s line parsed
     → WorksAt stores parsed.number line (command_in parsed) s.block block d e r a
     → t.line ≡ s.line → IsBesideSink line (seen sinks stores d s) (seen sinks stores e t)

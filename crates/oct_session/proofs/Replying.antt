@@ -39,7 +39,7 @@ use Rattle.oct_script.specs.declared.reply.Reply.{Reply}
 use Rattle.oct_script.specs.declared.reply.Reply.TheVariants as reply_of
 use Rattle.oct_script.specs.Replies.{is_refusal}
 use Rattle.oct_session.specs.Commands.{order_answer, order_reply, order_action}
-use Rattle.oct_session.specs.Commands.{accepted, edit_reply, value_reply}
+use Rattle.oct_session.specs.Commands.{accepted, edit_reply}
 use Rattle.oct_session.specs.Commands.{get_reply, cast_reply, list_reply, changes_reply}
 use Rattle.oct_session.specs.declared.kinds.Order.{Order}
 use Rattle.oct_session.specs.declared.kinds.Order.TheVariants as order
@@ -192,18 +192,6 @@ limit_carried (Err f) m n lo hi answer limited same = λ s at. (
   subst (λ (t : Map). StandsFor t s) (sym same) at,
 )
 
--- a query that the map answered
-pub query_done : (m : Map) (p : Point) (depth : ℕ) (value : Value) (shown : Reply)
-    → shown ≡ value_reply m.tree.odds value →
-    ◌≡◌ {A = Result Value MapFault} (Ok value)
-    (get_answer (ground_of m) m.is_stale (values_of m) p depth)
-    → Tells m m (question.Get p depth) (Some shown)
-query_done m p depth value shown is answer = λ q at. (
-  ap Some is ∙ ap (λ (g : Ground). Some (value_reply g.odds value)) at.base
-      ∙ ap (get_reply q.base.odds) (answer ∙ same_get m q p depth at),
-  stands_kept m q (accepted (Some shown) []) (accepted_none (Some shown) [] refl) at,
-)
-
 -- a query doesn't run out of memory
 cases_calm : (deep stale : Bool) (value : Value)
     → ◌≡◌ {A = Result Value MapFault}
@@ -224,20 +212,19 @@ get_calm : (stale : Bool) (values : Values) (depth : ℕ) (key : Option Voxel)
 get_calm stale values depth None is = cc
 get_calm stale values depth (Some k) is = block_calm stale values depth k is
 
-pub query_calm : (m : Map) (p : Point) (depth : ℕ) (f : MapFault)
-    → ◌≡◌ {A = Result Value MapFault} (Err f)
-    (get_answer (ground_of m) m.is_stale (values_of m) p depth)
-    → f ≡ fault.Memory → ⊥
-query_calm m p depth f answer memory =
-    get_calm m.is_stale (values_of m) depth (key_at m.tree.res p) (sym answer ∙ ap Err memory)
+pub query_calm : (m : Map) (p : Point) (depth : ℕ) (r : Result Value MapFault)
+    → r ≡ get_answer (ground_of m) m.is_stale (values_of m) p depth → r ≢ Err fault.Memory
+query_calm m p depth r answer memory =
+    get_calm m.is_stale (values_of m) depth (key_at m.tree.res p) (sym answer ∙ memory)
 
--- a query that the map refused
-pub query_refused : (a : Option Reply) (m : Map) (p : Point) (depth : ℕ) (f : MapFault)
-    → a ≡ fault_reply f → ◌≡◌ {A = Result Value MapFault} (Err f)
-    (get_answer (ground_of m) m.is_stale (values_of m) p depth)
+-- the value of a block, as the map answered it
+pub get_told : (a : Option Reply) (m : Map) (p : Point) (depth : ℕ) (r : Result Value MapFault)
+    → a ≡ get_reply m.tree.odds r
+    → r ≡ get_answer (ground_of m) m.is_stale (values_of m) p depth
     → Tells m m (question.Get p depth) a
-query_refused a m p depth f is answer = λ q at. (
-  is ∙ ap (get_reply q.base.odds) (answer ∙ same_get m q p depth at),
+get_told a m p depth r is answer = λ q at. (
+  is ∙ ap (λ (g : Ground). get_reply g.odds r) at.base
+      ∙ ap (get_reply q.base.odds) (answer ∙ same_get m q p depth at),
   stands_kept m q (accepted a []) (accepted_none a [] refl) at,
 )
 

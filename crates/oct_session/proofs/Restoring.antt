@@ -157,3 +157,9 @@ pub values_saved : (m : Map) (bytes : List ℕ)
 values_saved m bytes is s at =
     is ∙ ap (λ (g : Ground). snap_text g.res g.odds g.update_box (values_of m)) at.base
     ∙ sym (same_snapshot s.base.res s.base.odds s.base.update_box s.values (values_of m) at.values)
+
+pub values_made : {V E : Type 0} (m : Map) (made : Result V E) (items : V → List ℕ)
+    → IfOk made (λ v. items v ≡ snap_text m.tree.res m.tree.odds m.update_box (values_of m))
+    → IfOk made (λ v. IsFileOf m snapshot_file (items v))
+values_made m (Ok v) items is = values_saved m (items v) is
+values_made m (Err x) items is = tt

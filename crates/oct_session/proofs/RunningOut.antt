@@ -19,9 +19,8 @@ use Rattle.oct_map.specs.declared.fault.MapFault.{MapFault}
 use Rattle.oct_map.specs.declared.fault.MapFault.TheVariants as fault
 use Rattle.oct_query.specs.Shown.{Shown}
 use Rattle.oct_session.specs.Commands.{edit_reply}
-use Rattle.oct_session.specs.Kinds.{Kind}
 use Rattle.oct_session.specs.MapMemory.{OrderTakesMemory, QuestionTakesMemory, BlockTakesMemory}
-use Rattle.oct_session.specs.MapMemory.{HasBlocks, HasGroups, KindTakesMemory}
+use Rattle.oct_session.specs.MapMemory.{HasBlocks, HasGroups}
 use Rattle.oct_session.specs.ScanBlock.{is_zero}
 use Rattle.oct_session.specs.ScanSoFar.{ScanSoFar, sighting_so_far}
 use Rattle.oct_session.specs.declared.kinds.Order.{Order}
@@ -76,11 +75,6 @@ scan_runs_out r m scan s f turns saw short takes = on_err_weaker r (λ x. (
   turns,
   subst (λ y. TakesMemory m.tree.res y m.max_cells) saw (takes x),
 )) short
-
--- a command runs out that what does it is read as, where that does
-pub kind_runs_out : {A E : Type 0} (r : Result A E) (m : Map) (k read : Kind) → read ≡ k
-    → OnErr r (KindTakesMemory m read) → OnErr r (KindTakesMemory m k)
-kind_runs_out r m k read is short = on_err_weaker r (subst (KindTakesMemory m) is) short
 
 -- a file was read of bytes of which some is kept
 pub read_of_some : (file : FileRead) (bytes : List ℕ) →

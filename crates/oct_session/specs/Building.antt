@@ -7,7 +7,7 @@ use Rattle.oct_session.specs.Ending as script
 use Rattle.oct_session.specs.Ending.{IsReadToEnd}
 use Rattle.oct_session.specs.FileCommands.{classes_file}
 use Rattle.oct_session.specs.History.{State, state_after}
-use Rattle.oct_session.specs.Leaving as lent
+use Rattle.oct_session.specs.Leaving as context
 use Rattle.oct_session.specs.Leaving.{Desk, HasAsked, IsLikeAfter}
 use Rattle.oct_io.specs.Whole.{IsWhole}
 use Rattle.oct_session.specs.Session.{last_progress, session}
@@ -82,9 +82,9 @@ MayEnd o files bytes left old new status = IsStopped o files bytes left old new 
 -- replies take no memory, and all of it where the script had ended before the fault
 abbrev pub Leaves : Setup → Option Files → List ℕ → Option (List ℕ) → Desk → Status → Type 0
 Leaves o files bytes left d WriteFault = IsLikeAfter o (last_progress o files bytes) d
-Leaves o files bytes left d Memory = lent.Leaves o files bytes left None None d ⊥ Memory
+Leaves o files bytes left d Memory = context.Leaves o files bytes left None None d ⊥ Memory
     ⊎ IsLikeAfter o (last_progress o files bytes) d
-Leaves o files bytes left d status = lent.Leaves o files bytes left None None d ⊥ status
+Leaves o files bytes left d status = context.Leaves o files bytes left None None d ⊥ status
 
 -- where memory runs out, either the script hasn't ended, and the map is as where it was stopped, or
 -- all of it was done, and its file is cut off
@@ -92,7 +92,7 @@ abbrev pub RunsOut : Setup → Option Files → List ℕ → Option (List ℕ) �
     → Option (List ℕ) → Desk → Type 0
 RunsOut o files bytes left old new d =
     (IsStopped o files bytes left old new Memory
-    × lent.Leaves o files bytes left None None d ⊥ Memory)
+    × context.Leaves o files bytes left None None d ⊥ Memory)
     ⊎ (IsCutFile o files bytes left old new × IsLikeAfter o (last_progress o files bytes) d)
 
 -- how a build over these bytes and files may end, with this status: what is left of the input and

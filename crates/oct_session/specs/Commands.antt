@@ -156,26 +156,6 @@ verb_action files s verb.Load name = load_action (found_in files name)
 verb_action files s verb.Snapshot name = []
 verb_action files s verb.Restore name = restore_action s.base (found_in files name)
 
--- the reply to a command that the map does or answers
-abbrev pub map_reply : State → Kind → Option Reply
-map_reply s (Orders order) = order_reply s order
-map_reply s (Asks question) = question_reply s question
-map_reply s Nothing = None
-map_reply s (Opens head) = None
-map_reply s (Adds p) = None
-map_reply s Closes = None
-map_reply s (Names verb name) = None
-
--- what it does
-abbrev pub map_action : Kind → History
-map_action (Orders order) = order_action order ∷ []
-map_action (Asks question) = question_action question
-map_action Nothing = []
-map_action (Opens head) = []
-map_action (Adds p) = []
-map_action Closes = []
-map_action (Names verb name) = []
-
 -- the reply to a command, by what does it, over these files and in a state; there is none where
 -- there is nothing to do, nor to the head of a scan, whose block has one reply in all
 abbrev pub kind_reply : Option Files → State → Kind → Option Reply

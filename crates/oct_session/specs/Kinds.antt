@@ -12,8 +12,6 @@ use Rattle.oct_session.specs.declared.kinds.Question.{Question}
 use Rattle.oct_session.specs.declared.kinds.Question.TheVariants as question
 use Rattle.oct_script.specs.declared.verbs.FileVerb.{FileVerb}
 use Rattle.oct_script.specs.declared.verbs.FileVerb.TheVariants as verb
-use Rattle.oct_session.specs.declared.kinds.Rest as lent_rest
-use Rattle.oct_session.specs.declared.kinds.Rest.TheVariants as rest
 use Rattle.oct_session.specs.declared.kinds.Kind as lent_kind
 use Rattle.oct_session.specs.declared.kinds.Kind.TheVariants as kind
 
@@ -55,29 +53,18 @@ kind_of (command.Load name) = Names verb.Load name
 kind_of (command.Snapshot name) = Names verb.Snapshot name
 kind_of (command.Restore name) = Names verb.Restore name
 
--- what is left of it outside the block of a scan, once the map has had its part in it
-abbrev pub left_of : Kind → Kind
-left_of Nothing = Nothing
-left_of (Opens head) = Opens head
-left_of (Adds p) = Nothing
-left_of Closes = Nothing
-left_of (Orders order) = Nothing
-left_of (Asks question) = Nothing
-left_of (Names verb name) = Names verb name
-
--- what is left, where head and name are lent
-abbrev pub rest_seen : lent_rest.Rest → Kind
-rest_seen rest.Nothing = Nothing
-rest_seen (rest.Opens head) = Opens head.now
-rest_seen (rest.Names verb name) = Names verb name.now
-
--- and what does it
+-- the same, where head and name are lent
 abbrev pub kind_seen : lent_kind.Kind → Kind
+kind_seen kind.Nothing = Nothing
+kind_seen (kind.Opens head) = Opens head.now
 kind_seen (kind.Adds p) = Adds p
 kind_seen kind.Closes = Closes
 kind_seen (kind.Orders order) = Orders order
 kind_seen (kind.Asks question) = Asks question
-kind_seen (kind.Rests rest) = rest_seen rest
+kind_seen (kind.Saves name) = Names verb.Save name.now
+kind_seen (kind.Loads name) = Names verb.Load name.now
+kind_seen (kind.Snaps name) = Names verb.Snapshot name.now
+kind_seen (kind.Restores name) = Names verb.Restore name.now
 
 -- the numbers in an order are as those in its command
 abbrev pub IsSmallOrder : Order → Type 0

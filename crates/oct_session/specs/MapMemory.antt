@@ -18,7 +18,6 @@ use Rattle.oct_map.specs.Notes.{notes_of, LacksNotes}
 use Rattle.oct_map.specs.Outcome.{corner_need, corner_volume}
 use Rattle.oct_map.specs.Restores.{restore_answer}
 use Rattle.oct_map.specs.declared.fault.MapFault.{MapFault}
-use Rattle.oct_session.specs.Kinds.{Kind, Orders, Asks}
 use Rattle.oct_session.specs.ScanBlock.{is_zero}
 use Rattle.oct_session.specs.ScanSoFar.{sighting_so_far}
 use Rattle.oct_session.specs.declared.kinds.Order.{Order}
@@ -50,12 +49,6 @@ QuestionTakesMemory m (question.List lo hi depth) =
     HasBlocks (list_answer (ground_of m) m.is_stale (values_of m) lo hi depth)
 QuestionTakesMemory m question.Changes = notes_of m.mark ≡ [] → ⊥
 QuestionTakesMemory m _ = ⊥
-
--- a command does outside a block, by what does it: one that the map does or answers
-abbrev pub KindTakesMemory : Map → Kind → Type 0
-KindTakesMemory m (Orders order) = OrderTakesMemory m order
-KindTakesMemory m (Asks question) = QuestionTakesMemory m question
-KindTakesMemory m _ = ⊥
 
 -- a block does whose scan has points and isn't refused for a fault of its own
 abbrev pub BlockTakesMemory : Map → ScanBlock → Type 0

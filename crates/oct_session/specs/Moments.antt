@@ -33,14 +33,14 @@ use Rattle.oct_session.specs.Standing.{Seat, seated, desk_of, KeepsStanding, Add
 use Rattle.oct_session.specs.Standing.{TakesLine, FailsLine, HoldsLine, HaltsLine, TakesHeld}
 use Rattle.oct_session.specs.Standing.{HaltsHeld, Halts, Reaches, HaltsAtEnd, Takes, StopsIn}
 use Rattle.oct_session.specs.Standing.{IsInStep, IsCutBy, IsResting, Finishes, Ends}
-use Rattle.oct_session.specs.declared.lent.Lent.{Lent}
+use Rattle.oct_session.specs.declared.context.Context.{Context}
 use Rattle.oct_session.specs.declared.lines.Parsed.{Parsed}
 use Rattle.oct_session.specs.declared.scan_block.ScanBlock.{ScanBlock}
 use Rattle.oct_session.specs.declared.session.Session.{Session}
 
 -- ---- a moment
 
--- a session at one moment: where what it is lent lies, what that is and tells, and the session
+-- a session at one moment: where what it works with lies, what that is and tells, and the session
 pub record Moment (F : Type 0) : Type 1 where
   pub map_name : ℕ
   pub store_name : ℕ
@@ -53,18 +53,18 @@ pub record Moment (F : Type 0) : Type 1 where
   pub shortages : ℕ
   pub session : Session
 
--- the moment of this session, which is lent this
-abbrev pub seen : {K F : Type 0} → sink.Ghosts K → store.Ghosts F → Lent K F → Session → Moment F
-seen K F lent session = record {
-  map_name = lent.map.ghost_name;
-  store_name = lent.store.ghost_name;
-  sink_name = lent.sink.ghost_name;
-  map = lent.map.now;
-  desk = desk_of F.files F.calls lent.map.now lent.store.now;
-  store_faults = F.faults lent.store.now;
-  written = K.written lent.sink.now;
-  sink_faults = K.faults lent.sink.now;
-  shortages = K.shortages lent.sink.now;
+-- the moment of this session, which works with this
+abbrev pub seen : {K F : Type 0} → sink.Ghosts K → store.Ghosts F → Context K F → Session → Moment F
+seen K F context session = record {
+  map_name = context.map.ghost_name;
+  store_name = context.store.ghost_name;
+  sink_name = context.sink.ghost_name;
+  map = context.map.now;
+  desk = desk_of F.files F.calls context.map.now context.store.now;
+  store_faults = F.faults context.store.now;
+  written = K.written context.sink.now;
+  sink_faults = K.faults context.sink.now;
+  shortages = K.shortages context.sink.now;
   session = session;
 }
 
@@ -94,7 +94,7 @@ abbrev pub IsCounted : {F : Type 0} → Moment F → Moment F → Option Stop �
 IsCounted a b how = AreCounted how a.sink_faults b.sink_faults a.shortages b.shortages
     a.store_faults b.store_faults
 
--- what is lent lies where it lay, more was written or nothing, the map stands for some history
+-- all lies where it lay, more was written or nothing, the map stands for some history
 -- still, and the counts of faults tell of this stop, or of none
 pub record IsDone {F : Type 0} (a b : Moment F) (how : Option Stop) : Type 0 where
   pub map_name : b.map_name ≡ a.map_name
@@ -133,12 +133,12 @@ pub record HasParsed (session : Session) (line : Line) (parsed : Parsed) : Type 
       ≡ command_on (is_some session.block) (session.line_count + 1) line
   pub opens : TellsOpening parsed line
 
--- a call that does a line on what it is lent, where the first block was open before it and the
+-- a call that does a line in a context, where the first block was open before it and the
 -- other one is after it: the line had its effect, or it failed; the store was asked once at most
 -- where it names a file; the sink wasn't
 pub record Works {K F T : Type 0} (ghosts : store.Ghosts F)
     (effect : Option Files → State → Effect) (asked : Option FileWork)
-    (before after : Option ScanBlock) (d e : Lent K F) (result : Result T StoreFault)
+    (before after : Option ScanBlock) (d e : Context K F) (result : Result T StoreFault)
     (reply : Option Reply) : Type 0 where
   pub took : HasEffect effect asked before d.map.now (ghosts.files d.store.now) e.map.now
       (ghosts.files e.store.now) after (with_reply result reply)
@@ -152,8 +152,8 @@ pub record Works {K F T : Type 0} (ghosts : store.Ghosts F)
   pub sink : e.sink.now ≡ d.sink.now
 
 -- a call that does what a verb says with the file of this name
-abbrev pub UsesFile : {K F T : Type 0} → store.Ghosts F → FileVerb → List ℕ → Lent K F → Lent K F
-    → Result T StoreFault → Option Reply → Type 0
+abbrev pub UsesFile : {K F T : Type 0} → store.Ghosts F → FileVerb → List ℕ → Context K F
+    → Context K F → Result T StoreFault → Option Reply → Type 0
 UsesFile ghosts verb name d e result reply =
     Works ghosts (λ files s. effect_of_kind files s (Names verb name)) (Some (verb_work verb name))
     None None d e result reply
@@ -168,8 +168,8 @@ saving_effect file name s =
     replied (save_reply (file s)) [] (Some (record { name = name; bytes = file s }))
 
 -- a call that does so
-abbrev pub SavesFile : {K F T : Type 0} → store.Ghosts F → (State → List ℕ) → List ℕ → Lent K F
-    → Lent K F → Result T StoreFault → Option Reply → Type 0
+abbrev pub SavesFile : {K F T : Type 0} → store.Ghosts F → (State → List ℕ) → List ℕ → Context K F
+    → Context K F → Result T StoreFault → Option Reply → Type 0
 SavesFile ghosts file name d e result reply =
     Works ghosts (λ files s. saving_effect file name s) (Some (Puts name file)) None None d e
     result reply
@@ -243,9 +243,9 @@ pub record Makes {F : Type 0} (move : Move) (a b : Moment F) (how : Option Stop)
   pub done : IsDone a b how
   pub to : MovesTo move a b how
 
--- the same, of a session that is lent this, and of a result
-abbrev pub Does : {K F T : Type 0} → sink.Ghosts K → store.Ghosts F → Move → Lent K F → Session
-    → Lent K F → Session → Result T Stop → Type 0
+-- the same, of a session in these contexts, and of a result
+abbrev pub Does : {K F T : Type 0} → sink.Ghosts K → store.Ghosts F → Move → Context K F → Session
+    → Context K F → Session → Result T Stop → Type 0
 Does K F move d s e t result = Makes move (seen K F d s) (seen K F e t) (stop_in result)
 
 -- what of a piece was taken: so many bytes, or it isn't said

@@ -73,6 +73,11 @@ with_kind number (Orders order) scan = Scanning scan
 with_kind number (Asks question) scan = Scanning scan
 with_kind number (Names verb name) scan = Scanning scan
 
+-- the same, where some line may have been wrong, which stays so
+abbrev pub block_with : ℕ → Kind → ScanBlock → ScanBlock
+block_with number kind (Spoilt first) = Spoilt first
+block_with number kind (Scanning scan) = with_kind number kind scan
+
 -- the block with one line more, which is the line of this number and doesn't end it: the first
 -- fault spoils it, and stays
 abbrev pub with_line : ℕ → Result Command Refusal → ScanBlock → ScanBlock

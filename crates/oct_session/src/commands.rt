@@ -4,26 +4,24 @@ ghost use Rattle.oct_odds.specs.Odds.{odds_of};
 ghost use Rattle.oct_odds.specs.Update.{IsSmallEvent};
 ghost use Rattle.oct_map.specs.Map.{Map};
 ghost use Rattle.oct_map.specs.declared.fault.MapFault.{MapFault};
-ghost use Rattle.oct_script.specs.Commands.{IsSmallCommand, IsSmallEdit};
+ghost use Rattle.oct_script.specs.Commands.{IsSmallEdit};
 ghost use Rattle.oct_session.specs.History.{edit_event};
-ghost use Rattle.oct_session.specs.Commands.{cast_reply, list_reply, map_action, map_reply};
-ghost use Rattle.oct_session.specs.Commands.{value_reply};
-ghost use Rattle.oct_session.specs.Kinds.{kind_of, IsSmallOrder};
+ghost use Rattle.oct_session.specs.Commands.{cast_reply, get_reply, list_reply, value_reply};
+ghost use Rattle.oct_session.specs.Kinds.{IsSmallOrder};
 ghost use Rattle.oct_session.specs.Refusals.{refusal_of, fault_reply};
-ghost use Rattle.oct_session.specs.Standing.{with_reply, HasCarriedOut, HasDone, HasObeyed};
+ghost use Rattle.oct_session.specs.Standing.{with_reply, HasCarriedOut, HasObeyed};
 ghost use Rattle.oct_session.specs.Standing.{HasScanned, HasTold, Tells};
 ghost use Rattle.oct_session.specs.MapMemory.{OrderTakesMemory, QuestionTakesMemory};
-ghost use Rattle.oct_session.specs.MapMemory.{KindTakesMemory, BlockTakesMemory};
+ghost use Rattle.oct_session.specs.MapMemory.{BlockTakesMemory};
 
-use crate::kinds::{Kind, Order, Question, kind_of};
+use crate::kinds::{Order, Question};
 use crate::scan_block::{PendingScan, ScanBlock};
 use oct_cast::Cast;
-use oct_key::Point;
 use oct_map::{MapFault, OccMap};
 use oct_num::Memory;
 use oct_odds::{Event, OddsModel};
 use oct_query::BlockList;
-use oct_script::{Command, Edit, Refusal, Reply, ScanDone};
+use oct_script::{Edit, Refusal, Reply, ScanDone};
 
 /// The event of an edit.
 fn event_of(odds: &OddsModel, e: Edit) -> Event
@@ -93,7 +91,7 @@ pub fn refuse(fault: MapFault, reply: &mut Option<Reply>) -> Result<(), Memory>
 }
 
 /// Answers a call that takes no memory and that the map refuses.
-fn turn_down(fault: MapFault, reply: &mut Option<Reply>)
+fn refuse_without_memory(fault: MapFault, reply: &mut Option<Reply>)
     requires { fault ≢ MapFault.Memory }
     ensures { reply.new ≡ fault_reply fault }
 {
@@ -105,7 +103,7 @@ fn turn_down(fault: MapFault, reply: &mut Option<Reply>)
 
 /// Answers `ok` to what the map has done, or why it refuses.
 #[inline(always)]
-fn say(done: Result<(), MapFault>, reply: &mut Option<Reply>) -> Result<(), Memory>
+fn acknowledge(done: Result<(), MapFault>, reply: &mut Option<Reply>) -> Result<(), Memory>
     ensures obeyed { (old new : Map) (order : Order) → HasCarriedOut old new order done
         → HasObeyed old new order (with_reply result reply.new) }
     ensures memory { OnErr result (done ≡ Err MapFault.Memory) }
@@ -120,7 +118,7 @@ fn say(done: Result<(), MapFault>, reply: &mut Option<Reply>) -> Result<(), Memo
 }
 
 /// Has the map do something, and puts its reply in its place. Without memory nothing was done.
-fn obey(map: &mut OccMap, order: Order, reply: &mut Option<Reply>) -> Result<(), Memory>
+pub fn execute(map: &mut OccMap, order: Order, reply: &mut Option<Reply>) -> Result<(), Memory>
     requires { IsSmallOrder order }
     ensures obeyed { HasObeyed map.old map.new order (with_reply result reply.new) }
     ensures memory { OnErr result (OrderTakesMemory map.old order) }
@@ -128,51 +126,52 @@ fn obey(map: &mut OccMap, order: Order, reply: &mut Option<Reply>) -> Result<(),
     match order {
         Order::Edit { p, e, lazy } => {
             let event = event_of(&map.tree().odds(), e);
-            say(map.edit(p, event, lazy), reply)
+            acknowledge(map.edit(p, event, lazy), reply)
         }
         Order::Box { lo, hi, e } => {
             let event = event_of(&map.tree().odds(), e);
-            say(map.edit_box(lo, hi, event), reply)
+            acknowledge(map.edit_box(lo, hi, event), reply)
         }
-        Order::Limit { lo, hi } => say(map.limit(lo, hi), reply),
+        Order::Limit { lo, hi } => acknowledge(map.limit(lo, hi), reply),
         Order::NoLimit => {
             map.no_limit();
-            say(Ok(()), reply)
+            acknowledge(Ok(()), reply)
         }
         Order::Refresh => {
             map.refresh();
-            say(Ok(()), reply)
+            acknowledge(Ok(()), reply)
         }
         Order::Prune => {
             map.prune();
-            say(Ok(()), reply)
+            acknowledge(Ok(()), reply)
         }
         Order::Clear => {
             map.clear();
-            say(Ok(()), reply)
+            acknowledge(Ok(()), reply)
         }
         Order::MaxLik => {
             map.max_likelihood();
-            say(Ok(()), reply)
+            acknowledge(Ok(()), reply)
         }
         Order::Track => {
             map.track();
-            say(Ok(()), reply)
+            acknowledge(Ok(()), reply)
         }
         Order::Untrack => {
             map.untrack();
-            say(Ok(()), reply)
+            acknowledge(Ok(()), reply)
         }
     }
 }
 
-/// Asks for the value of the block of that depth around a point, and answers it.
-fn query(map: &OccMap, p: Point, depth: u32, reply: &mut Option<Reply>)
-    ensures { Tells map.now map.now (Question.Get p depth) reply.new }
+/// Answers the value that the map has found of a block.
+fn tell_value(odds: &OddsModel, found: Result<Option<i32>, MapFault>, reply: &mut Option<Reply>)
+    requires { found ≢ Err MapFault.Memory }
+    ensures { reply.new ≡ get_reply (odds_of odds.now) found }
 {
-    match map.get(p, depth) {
-        Ok(value) => *reply = Some(show(&map.tree().odds(), value)),
-        Err(fault) => turn_down(fault, reply),
+    match found {
+        Ok(value) => *reply = Some(show(odds, value)),
+        Err(fault) => refuse_without_memory(fault, reply),
     }
 }
 
@@ -183,7 +182,7 @@ fn tell_found(found: Result<Cast, MapFault>, reply: &mut Option<Reply>)
 {
     match found {
         Ok(found) => *reply = Some(Reply::Casted(found)),
-        Err(fault) => turn_down(fault, reply),
+        Err(fault) => refuse_without_memory(fault, reply),
     }
 }
 
@@ -229,7 +228,7 @@ fn count(map: &mut OccMap, reply: &mut Option<Reply>)
 }
 
 /// Asks the map something, and puts its reply in its place. Without memory nothing was done.
-fn ask(map: &mut OccMap, question: Question, reply: &mut Option<Reply>) -> Result<(), Memory>
+pub fn ask(map: &mut OccMap, question: Question, reply: &mut Option<Reply>) -> Result<(), Memory>
     ensures told { HasTold map.old map.new question (with_reply result reply.new) }
     ensures memory { OnErr result (QuestionTakesMemory map.old question) }
 {
@@ -239,30 +238,13 @@ fn ask(map: &mut OccMap, question: Question, reply: &mut Option<Reply>) -> Resul
             return tell_blocks(map.list(lo, hi, depth), threshold, reply);
         }
         Question::Changes => return changes(map, reply),
-        Question::Get { p, depth } => query(map, p, depth, reply),
+        Question::Get { p, depth } => {
+            tell_value(&map.tree().odds(), map.get(p, depth), reply);
+        }
         Question::Cast { o, e, ignore } => tell_found(map.cast(o, e, ignore), reply),
         Question::Counts => count(map, reply),
     }
     Ok(())
-}
-
-/// Has the map do or answer what a command asks of it outside a block, and puts the reply in its
-/// place. Without memory nothing was done.
-#[inline(never)]
-pub fn by_map(map: &mut OccMap, command: &Command, reply: &mut Option<Reply>) -> Result<(), Memory>
-    requires { IsSmallCommand command.now }
-    ensures done { HasDone (λ s. map_reply s (kind_of command.now))
-        (λ s. map_action (kind_of command.now)) map.old map.new (with_reply result reply.new) }
-    ensures memory { OnErr result (KindTakesMemory map.old (kind_of command.now)) }
-{
-    match kind_of(command) {
-        Kind::Orders(order) => obey(map, order, reply),
-        Kind::Asks(question) => ask(map, question, reply),
-        Kind::Adds(_) | Kind::Closes | Kind::Rests(_) => {
-            *reply = None;
-            Ok(())
-        }
-    }
 }
 
 /// Does a scan whose points have all been read, and answers it.

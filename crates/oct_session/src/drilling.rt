@@ -10,7 +10,7 @@ ghost use Rattle.oct_session.specs.Drill.{lines_about, HasLeft};
 ghost use Rattle.oct_io.specs.Answer.{EndsUnread};
 
 use crate::building::Discard;
-use crate::lent::Lent;
+use crate::context::Context;
 use crate::options::{MOST_BYTES, Options};
 use crate::service::{done_or_refused, read_all};
 use crate::session::Session;
@@ -111,13 +111,13 @@ fn work_through(alloc: Global, seed: u64, scans: u32, points: u32) -> Result<Lea
     let mut session = Session::new(alloc);
     let mut store = MemoryStore::new(alloc);
     let mut script = Generator::new(seed, scans, points);
-    let mut lent = Lent {
+    let mut context = Context {
         alloc,
         map: &mut map,
         store: &mut store,
         sink: &mut Discard {},
     };
-    read_all(&options, &mut lent, &mut session, &mut script)?;
+    read_all(&options, &mut context, &mut session, &mut script)?;
     Ok(Leavings {
         map,
         tally: session.tally,

@@ -1,6 +1,6 @@
 //! What a command does that names a file: a save or a snapshot to the store, or a load or a restore
 //! from it.
-ghost use Rattle.std.specs.Prelude.{◌≡◌, ℕ, List, [], Ok, OnErr, Some};
+ghost use Rattle.std.specs.Prelude.{◌≡◌, ℕ, List, [], Ok, IfOk, OnErr, Some};
 ghost use Rattle.oct_bt.specs.File.{reading};
 ghost use Rattle.oct_bt.specs.Reading.{KeepsSome, file_progress};
 ghost use Rattle.oct_snap.specs.Reading.{read_snapshot};
@@ -15,7 +15,7 @@ ghost use Rattle.oct_session.specs.Moments.{UsesFile, IsFileOf, SavesFile};
 ghost use Rattle.oct_session.specs.Standing.{with_reply, HasDone};
 
 use crate::commands::refuse;
-use crate::lent::Lent;
+use crate::context::Context;
 use oct_bt::{BtFile, read_classes};
 use oct_io::{Loaded, Sink, Store, StoreFault};
 use oct_map::OccMap;
@@ -23,33 +23,24 @@ use oct_num::Memory;
 use oct_script::{FileVerb, Name, Refusal, Reply, file_refusal};
 use std::alloc::Global;
 
-/// Puts these bytes under a name of the store, and answers their length.
-fn put<K: Sink, F: Store>(
-    lent: &mut Lent<'_, K, F>,
+/// Puts the bytes of a file of the map under a name of the store, and answers their length, unless
+/// memory ran out for them.
+pub fn save<K: Sink, F: Store>(
+    context: &mut Context<'_, K, F>,
     name: &Name,
-    bytes: &[u8],
+    made: Result<Vec<u8>, Memory>,
     reply: &mut Option<Reply>,
 ) -> Result<(), StoreFault>
-    ensures saves { (file : State → List ℕ) → IsFileOf lent.old.map.now file bytes.now
-        → SavesFile F.Store file name.now lent.old lent.new result reply.new }
-    ensures kept { lent.new.map.now ≡ lent.old.map.now }
+    ensures saves { (file : State → List ℕ)
+        → IfOk made (λ bytes. IsFileOf context.old.map.now file bytes.items)
+        → SavesFile F.Store file name.now context.old context.new result reply.new }
+    ensures kept { context.new.map.now ≡ context.old.map.now }
 {
-    lent.store.save(name.as_str(), bytes)?;
+    let file = made?;
+    let bytes = file.as_slice();
+    context.store.save(name.as_str(), bytes)?;
     *reply = Some(Reply::Saved(bytes.len() as u64));
     Ok(())
-}
-
-/// Puts the file of the map's classes under a name of the store, and answers its length.
-fn save<K: Sink, F: Store>(
-    lent: &mut Lent<'_, K, F>,
-    name: &Name,
-    reply: &mut Option<Reply>,
-) -> Result<(), StoreFault>
-    ensures uses { UsesFile F.Store FileVerb.Save name.now lent.old lent.new result reply.new }
-    ensures kept { lent.new.map.now ≡ lent.old.map.now }
-{
-    let file = lent.map.to_bt()?;
-    put(lent, name, file.as_slice(), reply)
 }
 
 /// Puts the classes of a file in place of the map, and answers its number of nodes.
@@ -109,29 +100,16 @@ fn take_in(
 }
 
 /// Loads the file of this name of the store, and answers it.
-fn load<K: Sink, F: Store>(
-    lent: &mut Lent<'_, K, F>,
+pub fn load<K: Sink, F: Store>(
+    context: &mut Context<'_, K, F>,
     name: &Name,
     reply: &mut Option<Reply>,
 ) -> Result<(), StoreFault>
-    ensures { UsesFile F.Store FileVerb.Load name.now lent.old lent.new result reply.new }
+    ensures { UsesFile F.Store FileVerb.Load name.now context.old context.new result reply.new }
 {
-    let loaded = lent.store.load(lent.alloc, name.as_str())?;
-    take_in(lent.alloc, lent.map, loaded, reply)?;
+    let loaded = context.store.load(context.alloc, name.as_str())?;
+    take_in(context.alloc, context.map, loaded, reply)?;
     Ok(())
-}
-
-/// Puts the snapshot of the map under a name of the store, and answers its length.
-fn snapshot<K: Sink, F: Store>(
-    lent: &mut Lent<'_, K, F>,
-    name: &Name,
-    reply: &mut Option<Reply>,
-) -> Result<(), StoreFault>
-    ensures uses { UsesFile F.Store FileVerb.Snapshot name.now lent.old lent.new result reply.new }
-    ensures kept { lent.new.map.now ≡ lent.old.map.now }
-{
-    let file = lent.map.to_snapshot()?;
-    put(lent, name, file.as_slice(), reply)
 }
 
 /// Makes the map that of the snapshot of these bytes, and answers it.
@@ -166,31 +144,14 @@ fn take_back(map: &mut OccMap, loaded: Loaded, reply: &mut Option<Reply>) -> Res
 }
 
 /// Restores the snapshot of this name of the store, and answers it.
-fn restore<K: Sink, F: Store>(
-    lent: &mut Lent<'_, K, F>,
+pub fn restore<K: Sink, F: Store>(
+    context: &mut Context<'_, K, F>,
     name: &Name,
     reply: &mut Option<Reply>,
 ) -> Result<(), StoreFault>
-    ensures { UsesFile F.Store FileVerb.Restore name.now lent.old lent.new result reply.new }
+    ensures { UsesFile F.Store FileVerb.Restore name.now context.old context.new result reply.new }
 {
-    let loaded = lent.store.load(lent.alloc, name.as_str())?;
-    take_back(lent.map, loaded, reply)?;
+    let loaded = context.store.load(context.alloc, name.as_str())?;
+    take_back(context.map, loaded, reply)?;
     Ok(())
-}
-
-/// Does what a verb says with the file of this name of the store, and answers it.
-pub fn use_file<K: Sink, F: Store>(
-    lent: &mut Lent<'_, K, F>,
-    verb: FileVerb,
-    name: &Name,
-    reply: &mut Option<Reply>,
-) -> Result<(), StoreFault>
-    ensures { UsesFile F.Store verb name.now lent.old lent.new result reply.new }
-{
-    match verb {
-        FileVerb::Save => save(lent, name, reply),
-        FileVerb::Load => load(lent, name, reply),
-        FileVerb::Snapshot => snapshot(lent, name, reply),
-        FileVerb::Restore => restore(lent, name, reply),
-    }
 }

@@ -1,10 +1,10 @@
 //! Commands by what does them.
 ghost use Rattle.std.specs.Prelude.{◌≡◌};
 ghost use Rattle.oct_script.specs.Commands.{IsSmallCommand};
-ghost use Rattle.oct_session.specs.Kinds.{kind_of, kind_seen, left_of, rest_seen, IsSmallKind};
+ghost use Rattle.oct_session.specs.Kinds.{kind_of, kind_seen, IsSmallKind};
 
 use oct_key::Point;
-use oct_script::{Command, Edit, FileVerb, Name, ScanHead};
+use oct_script::{Command, Edit, Name, ScanHead};
 
 /// What the map is to do, and answers with `ok`, unless it refuses.
 #[derive(Clone, Copy)]
@@ -31,21 +31,14 @@ pub enum Question {
     Changes,
 }
 
-/// What is left of a command outside the block of a scan, once the map has had its part in it.
-#[derive(Clone, Copy)]
-pub enum Rest<'a> {
-    /// Nothing, if there ever was something to do.
-    Nothing,
-    /// It opens the block of a scan.
-    Opens(&'a ScanHead),
-    /// It names a file.
-    Names(FileVerb, &'a Name),
-}
-
 /// A command by what does it.
 #[derive(Clone, Copy)]
 pub enum Kind<'a> {
-    /// It adds a point to the block of a scan.
+    /// There is nothing to do.
+    Nothing,
+    /// It opens the block of a scan.
+    Opens(&'a ScanHead),
+    /// It adds a point to the block.
     Adds(Point),
     /// It closes the block.
     Closes,
@@ -53,8 +46,14 @@ pub enum Kind<'a> {
     Orders(Order),
     /// The map answers it.
     Asks(Question),
-    /// The map has no part in it.
-    Rests(Rest<'a>),
+    /// It saves the file of the map's classes under a name.
+    Saves(&'a Name),
+    /// It loads the file of a name.
+    Loads(&'a Name),
+    /// It saves the map's snapshot under a name.
+    Snaps(&'a Name),
+    /// It restores the snapshot of a name.
+    Restores(&'a Name),
 }
 
 /// The kind of a command.
@@ -65,10 +64,10 @@ pub fn kind_of(command: &Command) -> Kind<'_>
     ensures small { IsSmallKind (kind_seen result) }
 {
     match *command {
-        Command::Blank | Command::Quit => Kind::Rests(Rest::Nothing),
+        Command::Blank | Command::Quit => Kind::Nothing,
+        Command::Scan(ref head) => Kind::Opens(head),
         Command::Beam(p) => Kind::Adds(p),
         Command::End => Kind::Closes,
-        Command::Scan(ref head) => Kind::Rests(Rest::Opens(head)),
         Command::Edit { p, e, lazy } => Kind::Orders(Order::Edit { p, e, lazy }),
         Command::Box { lo, hi, e } => Kind::Orders(Order::Box { lo, hi, e }),
         Command::Limit { lo, hi } => Kind::Orders(Order::Limit { lo, hi }),
@@ -84,22 +83,9 @@ pub fn kind_of(command: &Command) -> Kind<'_>
         Command::Cast { o, e, ignore } => Kind::Asks(Question::Cast { o, e, ignore }),
         Command::Counts => Kind::Asks(Question::Counts),
         Command::Changes => Kind::Asks(Question::Changes),
-        Command::Save(ref name) => Kind::Rests(Rest::Names(FileVerb::Save, name)),
-        Command::Load(ref name) => Kind::Rests(Rest::Names(FileVerb::Load, name)),
-        Command::Snapshot(ref name) => Kind::Rests(Rest::Names(FileVerb::Snapshot, name)),
-        Command::Restore(ref name) => Kind::Rests(Rest::Names(FileVerb::Restore, name)),
-    }
-}
-
-/// What is left of a command outside the block of a scan, once the map has had its part in it.
-#[inline(always)]
-pub fn rest_of(command: &Command) -> Rest<'_>
-    requires { IsSmallCommand command.now }
-    ensures exact { rest_seen result ≡ left_of (kind_of command.now) }
-    ensures small { IsSmallKind (rest_seen result) }
-{
-    match kind_of(command) {
-        Kind::Adds(_) | Kind::Closes | Kind::Orders(_) | Kind::Asks(_) => Rest::Nothing,
-        Kind::Rests(rest) => rest,
+        Command::Save(ref name) => Kind::Saves(name),
+        Command::Load(ref name) => Kind::Loads(name),
+        Command::Snapshot(ref name) => Kind::Snaps(name),
+        Command::Restore(ref name) => Kind::Restores(name),
     }
 }

@@ -38,19 +38,20 @@
 //! `oct_script` find the lines in them. `lines` reads a line and says what it does, inside a block
 //! and outside; `kinds` tells the commands apart, once, by what does them; `scan_block` keeps the
 //! scan that is being read; `commands` has the map do what it's ordered and answer what it's asked;
-//! `files` does what a verb says with a file. `held` keeps the replies that aren't written yet.
+//! `files` saves, loads and restores. `buffer` keeps the replies that aren't written yet; map,
+//! store, sink and the handle of memory go from call to call as one `Context`.
 //! `building` writes the file of a script's map in place of the replies, and `drilling` four lines
 //! about the session over a script that `oct_gen` makes. `oct_tasks` and `oct_promise` stand on
 //! this crate.
 #![tactic(auto)]
 
+mod buffer;
 mod building;
 mod commands;
+mod context;
 mod drilling;
 mod files;
-mod held;
 mod kinds;
-mod lent;
 mod lines;
 mod options;
 mod scan_block;

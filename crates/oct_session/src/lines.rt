@@ -4,31 +4,20 @@ ghost use Rattle.oct_script.specs.Commands.{IsSmallCommand};
 ghost use Rattle.oct_script.specs.Lines.{Line};
 ghost use Rattle.oct_session.specs.Commands.{asked_of, command_on, is_quit, may_change};
 ghost use Rattle.oct_session.specs.Moments.{Works};
-ghost use Rattle.oct_session.specs.ScanBlock.{is_end, opened, opens_block, spoilt_by, spoilt_reply};
-ghost use Rattle.oct_session.specs.Session.{effect, effect_opened, effect_inside};
+ghost use Rattle.oct_session.specs.ScanBlock.{opens_block, spoilt_by, spoilt_reply};
+ghost use Rattle.oct_session.specs.Session.{effect, effect_inside};
 ghost use Rattle.oct_session.specs.Parsed.{command_in, IsSmallLine, TellsOpening};
 ghost use Rattle.oct_session.specs.Standing.{with_reply, HasWorked};
 
-use crate::commands::{by_map, finish};
-use crate::files::use_file;
-use crate::kinds::{Kind, Rest, kind_of, rest_of};
-use crate::lent::Lent;
-use crate::scan_block::{ScanBlock, open_scan, opens_block, spoil};
+use crate::commands::{ask, execute, finish};
+use crate::context::Context;
+use crate::files::{load, restore, save};
+use crate::kinds::{Kind, kind_of};
+use crate::scan_block::{ScanBlock, add_point, open_scan, opens_block, spoil};
 use oct_io::{Sink, Store, StoreFault};
 use oct_map::OccMap;
 use oct_num::Memory;
 use oct_script::{Command, ReadLine, Refusal, Reply, parse_into};
-
-/// Whether a command closes a block.
-fn is_end(command: &Command) -> bool
-    requires { IsSmallCommand command.now }
-    ensures { result ≡ is_end (Ok command.now) }
-{
-    match kind_of(command) {
-        Kind::Closes => true,
-        Kind::Adds(_) | Kind::Orders(_) | Kind::Asks(_) | Kind::Rests(_) => false,
-    }
-}
 
 /// Whether a command ends the session.
 fn is_quit(command: &Command) -> bool
@@ -118,30 +107,6 @@ impl Parsed {
     }
 }
 
-/// What a command does outside a block.
-fn outside<K: Sink, F: Store>(
-    lent: &mut Lent<'_, K, F>,
-    parsed: &Parsed,
-    block: &mut Option<ScanBlock>,
-    reply: &mut Option<Reply>,
-) -> Result<(), StoreFault>
-    requires small { IsSmallCommand parsed.now.command }
-    requires closed { block.old ≡ None }
-    ensures { (line : Line) → Works F.Store (λ files s. effect_opened files s
-        (Ok parsed.now.command) (opened parsed.now.number line (Ok parsed.now.command)))
-        (asked_of (Ok parsed.now.command)) None block.new lent.old lent.new result reply.new }
-{
-    by_map(lent.map, &parsed.command, reply)?;
-    match rest_of(&parsed.command) {
-        Rest::Nothing => Ok(()),
-        Rest::Opens(head) => {
-            open_scan(lent.alloc, parsed.number, head, block);
-            Ok(())
-        }
-        Rest::Names(verb, name) => use_file(lent, verb, name, reply),
-    }
-}
-
 /// What a command does inside a block.
 fn inside(
     map: &mut OccMap,
@@ -149,41 +114,29 @@ fn inside(
     block: &mut Option<ScanBlock>,
     reply: &mut Option<Reply>,
 ) -> Result<(), Memory>
-    requires { IsSmallCommand parsed.now.command }
+    requires small { IsSmallCommand parsed.now.command }
+    requires silent { reply.old ≡ None }
     ensures { (first : ScanBlock) → block.old ≡ Some first
         → HasWorked (λ s. effect_inside s parsed.now.number (Ok parsed.now.command) first) first
         map.old map.new block.new (with_reply result reply.new) }
 {
-    if is_end(&parsed.command) {
-        let Some(standing) = block.take() else {
-            return Ok(());
-        };
-        return finish(map, standing, reply);
+    match kind_of(&parsed.command) {
+        Kind::Adds(p) => add_point(block, parsed.number, p),
+        Kind::Closes => {
+            let Some(standing) = block.take() else {
+                return Ok(());
+            };
+            finish(map, standing, reply)
+        }
+        Kind::Nothing
+        | Kind::Opens(_)
+        | Kind::Orders(_)
+        | Kind::Asks(_)
+        | Kind::Saves(_)
+        | Kind::Loads(_)
+        | Kind::Snaps(_)
+        | Kind::Restores(_) => Ok(()),
     }
-    *reply = None;
-    if let Some(standing) = block {
-        standing.push(parsed.number, &parsed.command)?;
-    }
-    Ok(())
-}
-
-/// Does what a command says, where a block is open or none.
-fn take_command<K: Sink, F: Store>(
-    lent: &mut Lent<'_, K, F>,
-    parsed: &Parsed,
-    block: &mut Option<ScanBlock>,
-    reply: &mut Option<Reply>,
-) -> Result<(), StoreFault>
-    requires { IsSmallCommand parsed.now.command }
-    ensures { (line : Line) → Works F.Store
-        (λ files s. effect files s parsed.now.number line (Ok parsed.now.command) block.old)
-        (asked_of (Ok parsed.now.command)) block.old block.new lent.old lent.new result reply.new }
-{
-    if block.is_some() {
-        inside(lent.map, parsed, block, reply)?;
-        return Ok(());
-    }
-    outside(lent, parsed, block, reply)
 }
 
 /// What a line does that isn't in the grammar: it spoils the block that is open, or the one that it
@@ -208,21 +161,41 @@ fn take_fault(
 /// that is open afterwards and the reply in their places. Where it failed, nothing was done, but
 /// for the file that it names.
 pub fn take_line<K: Sink, F: Store>(
-    lent: &mut Lent<'_, K, F>,
+    context: &mut Context<'_, K, F>,
     parsed: &Parsed,
     block: &mut Option<ScanBlock>,
     reply: &mut Option<Reply>,
 ) -> Result<(), StoreFault>
-    requires { IsSmallLine parsed.now }
+    requires small { IsSmallLine parsed.now }
+    requires silent { reply.old ≡ None }
     ensures { (line : Line) → TellsOpening parsed.now line → Works F.Store
         (λ files s. effect files s parsed.now.number line (command_in parsed.now) block.old)
-        (asked_of (command_in parsed.now)) block.old block.new lent.old lent.new result reply.new }
+        (asked_of (command_in parsed.now)) block.old block.new context.old context.new result
+        reply.new }
 {
-    match parsed.refusal {
-        None => take_command(lent, parsed, block, reply),
-        Some(refusal) => {
-            take_fault(parsed.opens, refusal, block, reply);
-            Ok(())
+    if let Some(refusal) = parsed.refusal {
+        take_fault(parsed.opens, refusal, block, reply);
+        return Ok(());
+    }
+    if block.is_some() {
+        inside(context.map, parsed, block, reply)?;
+        return Ok(());
+    }
+    match kind_of(&parsed.command) {
+        Kind::Nothing | Kind::Adds(_) | Kind::Closes => {}
+        Kind::Opens(head) => open_scan(context.alloc, parsed.number, head, block),
+        Kind::Orders(order) => execute(context.map, order, reply)?,
+        Kind::Asks(question) => ask(context.map, question, reply)?,
+        Kind::Loads(name) => return load(context, name, reply),
+        Kind::Restores(name) => return restore(context, name, reply),
+        Kind::Saves(name) => {
+            let file = context.map.to_bt();
+            return save(context, name, file, reply);
+        }
+        Kind::Snaps(name) => {
+            let file = context.map.to_snapshot();
+            return save(context, name, file, reply);
         }
     }
+    Ok(())
 }

@@ -1,21 +1,20 @@
 //! The block of a scan that is being read.
-ghost use Rattle.std.specs.Prelude.{◌≡◌, ℕ, option_map, All, IfOk, OnOk, OnErr, IfSome, Some, Ok};
+ghost use Rattle.std.specs.Prelude.{◌≡◌, ℕ, option_map, All, IfOk, OnOk, OnErr, IfSome, Some};
 ghost use Rattle.std.specs.Prelude.{Err, is_err, length, nat_le, pos, ◌≤ℤ◌, ◌<ℤ◌, ◌^◌};
 ghost use Rattle.oct_pose.specs.Reach.{IsInReach};
 ghost use Rattle.oct_scan.specs.Beam.{IsTrust, sighting_of};
-ghost use Rattle.oct_script.specs.Commands.{IsOwnOdds, IsRange, IsSmallCommand};
+ghost use Rattle.oct_script.specs.Commands.{IsOwnOdds, IsRange};
 ghost use Rattle.oct_session.specs.ScanSoFar.{begun, sighting_so_far, trust_of};
-ghost use Rattle.oct_session.specs.ScanBlock.{opens_block, with_line, spoilt_by};
+ghost use Rattle.oct_session.specs.ScanBlock.{block_with, opens_block, with_line, spoilt_by};
 ghost use Rattle.oct_session.specs.ScanBlock.{extended, GainsPoint};
 ghost use Rattle.oct_session.specs.ScanBlock.{is_zero, end_refusal};
-ghost use Rattle.oct_session.specs.Kinds.{IsSmallHead};
+ghost use Rattle.oct_session.specs.Kinds.{Adds, IsSmallHead};
 
-use crate::kinds::{Kind, kind_of};
 use oct_key::{Point, PointList};
 use oct_num::Memory;
 use oct_pose::{Pose, ZeroQuaternion};
 use oct_scan::{Scan, ScanOdds};
-use oct_script::{self as script, Command, ReadLine, Refusal, ScanHead, opens_scan};
+use oct_script::{self as script, ReadLine, Refusal, ScanHead, opens_scan};
 use std::alloc::Global;
 use std::marker::Model;
 
@@ -124,17 +123,14 @@ impl PendingScan {
 }
 
 impl ScanBlock {
-    /// Adds a command, which is on the line of this number and doesn't close the block. Memory is
-    /// taken for a point alone.
-    pub fn push(&mut self, number: u64, command: &Command) -> Result<(), Memory>
-        requires { IsSmallCommand command.now }
-        ensures exact { OnOk result (self.new ≡ with_line number (Ok command.now) self.old) }
+    /// Adds a point, which is on the line of this number, if no line was wrong so far. Memory is
+    /// taken for it alone.
+    fn push(&mut self, number: u64, p: Point) -> Result<(), Memory>
+        requires { IsInReach p }
+        ensures exact { OnOk result (self.new ≡ block_with number (Adds p) self.old) }
         ensures memory { OnErr result
-            (GainsPoint (Some self.old) (Some (with_line number (Ok command.now) self.old))) }
+            (GainsPoint (Some self.old) (Some (block_with number (Adds p) self.old))) }
     {
-        let Kind::Adds(p) = kind_of(command) else {
-            return Ok(());
-        };
         let ScanBlock::Scanning(scan) = self else {
             return Ok(());
         };
@@ -179,6 +175,20 @@ pub fn open_scan(alloc: Global, number: u64, head: &ScanHead, block: &mut Option
     ensures { block.new ≡ Some (ScanBlock.Scanning (begun number head.now)) }
 {
     *block = Some(ScanBlock::Scanning(PendingScan::new(alloc, number, *head)));
+}
+
+/// Adds a point to the block that is open, as [`ScanBlock::push`] does.
+pub fn add_point(block: &mut Option<ScanBlock>, number: u64, p: Point) -> Result<(), Memory>
+    requires { IsInReach p }
+    ensures ok { (first : ScanBlock) → block.old ≡ Some first
+        → OnOk result (block.new ≡ Some (block_with number (Adds p) first)) }
+    ensures memory { (first : ScanBlock) → block.old ≡ Some first
+        → OnErr result (GainsPoint (Some first) (Some (block_with number (Adds p) first))) }
+{
+    match block {
+        Some(standing) => standing.push(number, p),
+        None => Ok(()),
+    }
 }
 
 /// Spoils the block that is open, or the one that a faulty line opens.

@@ -9,7 +9,7 @@ ghost use Rattle.oct_io.specs.Shelf.{shelf};
 ghost use Rattle.oct_session.specs.Moments.{seen, stop_in, TakesPiece, Reads, IsWaiting};
 ghost use Rattle.oct_session.specs.Standing.{IsResting};
 
-use crate::lent::Lent;
+use crate::context::Context;
 use crate::options::Options;
 use crate::session::Session;
 use oct_io::{Sink, Source, Status, Stop, Store, read_piece};
@@ -21,21 +21,21 @@ const MOST_READ: usize = 16 * 1024;
 
 /// Takes what a read gave, of which the last byte may be one more than the script may have.
 fn take_piece<K: Sink, F: Store>(
-    lent: &mut Lent<'_, K, F>,
+    context: &mut Context<'_, K, F>,
     session: &mut Session,
     piece: &[u8],
     room: u64,
 ) -> Result<(), Stop>
     requires small { session.old.line_count + length piece.now < 2 ^ 63 }
     requires rests { IsResting session.old session.old.line_count }
-    ensures { TakesPiece piece.now room (seen K.Sink F.Store lent.old session.old)
-        (seen K.Sink F.Store lent.new session.new) (stop_in result) }
+    ensures { TakesPiece piece.now room (seen K.Sink F.Store context.old session.old)
+        (seen K.Sink F.Store context.new session.new) (stop_in result) }
 {
     if piece.len() as u64 <= room {
-        return session.take(lent, piece);
+        return session.take(context, piece);
     }
     let (front, _) = piece.split_at(room as usize);
-    session.take(lent, front)?;
+    session.take(context, front)?;
     if session.has_quit {
         Ok(())
     } else {
@@ -46,13 +46,13 @@ fn take_piece<K: Sink, F: Store>(
 /// Reads the script to its end or to `quit`, and answers what a read gave before the next one.
 pub(crate) fn read_all<S: Source, K: Sink, F: Store>(
     options: &Options,
-    lent: &mut Lent<'_, K, F>,
+    context: &mut Context<'_, K, F>,
     session: &mut Session,
     source: &mut S,
 ) -> Result<(), Stop>
     requires { IsWaiting options.now session.old 0 }
     ensures reads { Reads options.now (S.left source.old) (S.left source.new)
-        (seen K.Sink F.Store lent.old session.old) (seen K.Sink F.Store lent.new session.new)
+        (seen K.Sink F.Store context.old session.old) (seen K.Sink F.Store context.new session.new)
         (stop_in result) }
     ensures source_counts { IsScriptCounted result (S.faults source.old) (S.faults source.new)
         (S.ends source.old) (S.ends source.new) }
@@ -63,12 +63,12 @@ pub(crate) fn read_all<S: Source, K: Sink, F: Store>(
         let room = options.max_bytes() - taken;
         let count = read_piece(source, &mut buffer, room)?;
         let (piece, _) = buffer.split_at(count);
-        take_piece(lent, session, piece, room)?;
+        take_piece(context, session, piece, room)?;
         if session.has_quit {
             return Ok(());
         }
         if count == 0 {
-            return session.end(lent);
+            return session.end(context);
         }
         taken += count as u64;
     }
@@ -107,13 +107,13 @@ pub fn serve<S: Source, K: Sink, F: Store>(
         sink.old sink.new store.old store.new result }
 {
     let mut session = Session::new(alloc);
-    let mut lent = Lent {
+    let mut context = Context {
         alloc,
         map,
         store,
         sink,
     };
-    match read_all(options, &mut lent, &mut session, source) {
+    match read_all(options, &mut context, &mut session, source) {
         Ok(()) => done_or_refused(session.refused),
         Err(stop) => Status::from(stop),
     }

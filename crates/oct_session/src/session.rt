@@ -8,8 +8,8 @@ ghost use Rattle.oct_session.specs.Parsed.{IsSmallLine};
 ghost use Rattle.oct_session.specs.ScanBlock.{end_reply};
 ghost use Rattle.oct_session.specs.Standing.{IsFresh};
 
-use crate::held::{flush, hold_few, make_way, tell};
-use crate::lent::Lent;
+use crate::buffer::{append_reply, flush, flush_before_change, flush_if_full};
+use crate::context::Context;
 use crate::lines::{Parsed, take_line};
 use crate::scan_block::ScanBlock;
 use crate::tally::Tally;
@@ -74,18 +74,18 @@ impl Session {
     /// what is held is as it was.
     fn answer<K: Sink, F: Store>(
         &mut self,
-        lent: &mut Lent<'_, K, F>,
+        context: &mut Context<'_, K, F>,
         parsed: &Parsed,
     ) -> Result<(), StoreFault>
         requires few { self.old.line_count < 2 ^ 63 }
         requires small { IsSmallLine parsed.now }
         ensures { (line : Line) → HasParsed self.old line parsed.now
-            → Answers line (seen K.Sink F.Store lent.old self.old)
-            (seen K.Sink F.Store lent.new self.new) (fault_in result) }
+            → Answers line (seen K.Sink F.Store context.old self.old)
+            (seen K.Sink F.Store context.new self.new) (fault_in result) }
     {
         let mut reply = None;
-        take_line(lent, parsed, &mut self.block, &mut reply)?;
-        tell(&mut self.text, &reply)?;
+        take_line(context, parsed, &mut self.block, &mut reply)?;
+        append_reply(&mut self.text, &reply)?;
         self.refused |= is_refused(&reply);
         self.tally.count(&reply);
         self.has_quit = parsed.is_quit();
@@ -97,24 +97,24 @@ impl Session {
     /// where the line may change the map, or names a file.
     fn respond<K: Sink, F: Store>(
         &mut self,
-        lent: &mut Lent<'_, K, F>,
+        context: &mut Context<'_, K, F>,
         line: &ReadLine<'_>,
     ) -> Result<(), Stop>
         requires { IsReady self.old }
-        ensures does { Does K.Sink F.Store (Answer line.now) lent.old self.old lent.new self.new
-            result }
+        ensures does { Does K.Sink F.Store (Answer line.now) context.old self.old context.new
+            self.new result }
         ensures line { self.new.line ≡ self.old.line }
     {
         let mut parsed = Parsed::new();
         parsed.read(line, self.line_count + 1, self.block.is_some());
-        make_way(&parsed, &mut self.text, lent.sink)?;
-        match self.answer(lent, &parsed) {
+        flush_before_change(&parsed, &mut self.text, context.sink)?;
+        match self.answer(context, &parsed) {
             Ok(()) => {
-                hold_few(&mut self.text, lent.sink)?;
+                flush_if_full(&mut self.text, context.sink)?;
                 Ok(())
             }
             Err(fault) => {
-                flush(&mut self.text, lent.sink)?;
+                flush(&mut self.text, context.sink)?;
                 Err(Stop::from(fault))
             }
         }
@@ -122,39 +122,42 @@ impl Session {
 
     /// Answers the line that was fed, as [`Session::respond`] does, and begins the next one.
     #[inline(never)]
-    fn respond_fed<K: Sink, F: Store>(&mut self, lent: &mut Lent<'_, K, F>) -> Result<(), Stop>
+    fn respond_fed<K: Sink, F: Store>(
+        &mut self,
+        context: &mut Context<'_, K, F>,
+    ) -> Result<(), Stop>
         requires { IsReady self.old }
-        ensures does { Does K.Sink F.Store (Answer self.old.line.line) lent.old self.old lent.new
-            self.new result }
+        ensures does { Does K.Sink F.Store (Answer self.old.line.line) context.old self.old
+            context.new self.new result }
         ensures line { self.new.line ≡ unread }
     {
         let line = replace(&mut self.line, Lines::new());
-        self.respond(lent, &line.read())
+        self.respond(context, &line.read())
     }
 
     /// Takes the bytes up to and with the next line feed, answers the line that ends there, and
     /// returns how many bytes were taken.
     fn advance<K: Sink, F: Store>(
         &mut self,
-        lent: &mut Lent<'_, K, F>,
+        context: &mut Context<'_, K, F>,
         piece: &[u8],
     ) -> Result<usize, Stop>
         requires ready { IsReady self.old }
         requires some { (self.old.line.has_ended ≡ false) × (0 < length piece.now) }
-        ensures does { Does K.Sink F.Store (Take (taken_of result piece.now)) lent.old self.old
-            lent.new self.new result }
+        ensures does { Does K.Sink F.Store (Take (taken_of result piece.now)) context.old self.old
+            context.new self.new result }
         ensures within { IfOk result (λ n. (0 < n) × (n ≤ length piece.now)) }
     {
         if let Some(whole) = self.line.whole(piece) {
             let line = ReadLine::new(whole.text);
-            self.respond(lent, &line)?;
+            self.respond(context, &line)?;
             return Ok(whole.taken);
         }
         let fed = self.line.feed(piece);
         if !fed.ended {
             return Ok(fed.taken);
         }
-        self.respond_fed(lent)?;
+        self.respond_fed(context)?;
         Ok(fed.taken)
     }
 
@@ -162,35 +165,38 @@ impl Session {
     /// replies are written.
     pub fn take<K: Sink, F: Store>(
         &mut self,
-        lent: &mut Lent<'_, K, F>,
+        context: &mut Context<'_, K, F>,
         piece: &[u8],
     ) -> Result<(), Stop>
         requires room { HasRoom self.old (length piece.now) }
         requires unended { self.old.line.has_ended ≡ false }
-        ensures does { Does K.Sink F.Store (Take piece.now) lent.old self.old lent.new self.new
-            result }
+        ensures does { Does K.Sink F.Store (Take piece.now) context.old self.old context.new
+            self.new result }
         ensures empty { OnOk result (self.new.text.items ≡ []) }
     {
         let mut taken = 0;
         while taken < piece.len() && !self.has_quit {
             let (_, rest) = piece.split_at(taken);
-            taken += self.advance(lent, rest)?;
+            taken += self.advance(context, rest)?;
         }
-        flush(&mut self.text, lent.sink)?;
+        flush(&mut self.text, context.sink)?;
         Ok(())
     }
 
     /// Answers the last line, if it lacks its line feed, where the script has ended.
-    fn respond_last<K: Sink, F: Store>(&mut self, lent: &mut Lent<'_, K, F>) -> Result<(), Stop>
+    fn respond_last<K: Sink, F: Store>(
+        &mut self,
+        context: &mut Context<'_, K, F>,
+    ) -> Result<(), Stop>
         requires ready { IsReady self.old }
         requires empty { self.old.text.items ≡ [] }
-        ensures { Does K.Sink F.Store Rest lent.old self.old lent.new self.new result }
+        ensures { Does K.Sink F.Store Rest context.old self.old context.new self.new result }
     {
         if !self.line.has_rest() {
             return Ok(());
         }
-        self.respond_fed(lent)?;
-        flush(&mut self.text, lent.sink)?;
+        self.respond_fed(context)?;
+        flush(&mut self.text, context.sink)?;
         Ok(())
     }
 
@@ -201,7 +207,7 @@ impl Session {
         ensures { Closes K.Sink self.old sink.old self.new sink.new result }
     {
         let reply = end_reply(self.block.take());
-        tell(&mut self.text, &reply)?;
+        append_reply(&mut self.text, &reply)?;
         flush(&mut self.text, sink)?;
         self.refused |= is_refused(&reply);
         self.tally.count(&reply);
@@ -210,16 +216,16 @@ impl Session {
 
     /// Answers the last line, if it lacks its line feed, and closes the block that is open, where
     /// the script has ended.
-    pub fn end<K: Sink, F: Store>(&mut self, lent: &mut Lent<'_, K, F>) -> Result<(), Stop>
+    pub fn end<K: Sink, F: Store>(&mut self, context: &mut Context<'_, K, F>) -> Result<(), Stop>
         requires ready { IsReady self.old }
         requires empty { self.old.text.items ≡ [] }
-        ensures { Does K.Sink F.Store End lent.old self.old lent.new self.new result }
+        ensures { Does K.Sink F.Store End context.old self.old context.new self.new result }
     {
-        self.respond_last(lent)?;
+        self.respond_last(context)?;
         if self.has_quit {
             return Ok(());
         }
-        self.close(lent.sink)?;
+        self.close(context.sink)?;
         Ok(())
     }
 }

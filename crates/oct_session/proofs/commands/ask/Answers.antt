@@ -5,14 +5,23 @@ use mir.Syntax.{w32}
 use Rattle.oct_odds.specs.Odds.{Odds}
 use Rattle.oct_tree.specs.Tree.{Tree}
 use Rattle.oct_session.specs.declared.kinds.Question.TheVariants.{Get, List, Cast, Counts, Changes}
+use Rattle.oct_session.specs.Commands.{get_reply}
 use Rattle.oct_session.specs.Standing.{with_reply}
-use Rattle.oct_session.proofs.Replying.{cast_calm, cast_told, list_told, tells_as, told_as}
+use Rattle.oct_session.proofs.Replying.{cast_calm, cast_told, get_told, list_told, query_calm}
+use Rattle.oct_session.proofs.Replying.{tells_as, told_as}
 use Rattle.oct_session.proofs.RunningOut.{list_runs_out, question_runs_out}
 use Rattle.oct_session.proofs.commands.ask.Goals as goal
 
+pub tell_value-requires : goal.tell_value-requires
+tell_value-requires c = query_calm c.args.map.now c.in-Get.p c.in-Get.depth c.get.result
+    c.get.ensures.answer
+
 pub returns-in-Get-clause-told : goal.returns-in-Get-clause-told
-returns-in-Get-clause-told c = tells_as c.query.new.reply c.args.map.now c.args.map.now
-    c.args.question (Get c.in-Get.p c.in-Get.depth) c.in-Get.is c.query.ensures
+returns-in-Get-clause-told c = tells_as c.tell_value.new.reply c.args.map.now c.args.map.now
+    c.args.question (Get c.in-Get.p c.in-Get.depth) c.in-Get.is
+    (get_told c.tell_value.new.reply c.args.map.now c.in-Get.p c.in-Get.depth c.get.result
+    (c.tell_value.ensures ∙ ap (λ odds. get_reply odds c.get.result)
+    (c.odds.ensures ∙ ap (λ (t : Tree). t.odds) c.tree-in-Get.ensures.exact)) c.get.ensures.answer)
 
 pub returns-in-List-clause-told : goal.returns-in-List-clause-told
 returns-in-List-clause-told c =

@@ -18,8 +18,8 @@ returns-in_err-read_all-clause-memory c =
     (only_memory _ (Err c.in_err-read_all.field-0.0) c.drill_options-options.result
     (files_of c.new-store.result) c.args.seed c.args.scans c.args.points _ _ c.new_map-map.result
     (λ first. shelf (λ x. Some (files_of x)) (λ x. 0) first c.new-store.result)
-    (desk_of (λ x. Some (files_of x)) (λ x. 0) c.read_all.new.lent.map.now
-    c.read_all.new.lent.store.now)
+    (desk_of (λ x. Some (files_of x)) (λ x. 0) c.read_all.new.context.map.now
+    c.read_all.new.context.store.now)
     c.new-store.result c.new-session.result c.drill_options-options.ensures
     (ap Some c.new-script.ensures)
     (nothing_asked (λ x. Some (files_of x)) (λ x. 0) c.new-store.result)
@@ -34,13 +34,13 @@ returns-in_err-read_all-clause-memory c =
 
 pub returns-clause-done : goal.returns-clause-done
 returns-clause-done c =
-    let at : HasDrilled c.args.seed c.args.scans c.args.points c.read_all.new.lent.map.now
+    let at : HasDrilled c.args.seed c.args.scans c.args.points c.read_all.new.context.map.now
     c.read_all.new.session =
     work_done c.drill_options-options.result (files_of c.new-store.result) c.args.seed c.args.scans
     c.args.points _ _ c.new_map-map.result
     (λ first. shelf (λ x. Some (files_of x)) (λ x. 0) first c.new-store.result)
-    (desk_of (λ x. Some (files_of x)) (λ x. 0) c.read_all.new.lent.map.now
-    c.read_all.new.lent.store.now)
+    (desk_of (λ x. Some (files_of x)) (λ x. 0) c.read_all.new.context.map.now
+    c.read_all.new.context.store.now)
     c.new-store.result c.new-session.result c.read_all.new.session
     c.drill_options-options.ensures c.new-store.ensures (ap Some c.new-script.ensures)
     (nothing_asked (λ x. Some (files_of x)) (λ x. 0) c.new-store.result)

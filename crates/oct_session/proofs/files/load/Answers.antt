@@ -14,7 +14,7 @@ returns-in_err-loaded g c =
     record {
       took = load_failed (Some (Reads c.args.name.now)) load_reply
           (λ g found. load_action found) load_some
-          (with_reply c.from_residual.result c.args.reply.now) c.args.lent.now.map.now _ _
+          (with_reply c.from_residual.result c.args.reply.now) c.args.context.now.map.now _ _
           c.args.name.now refl refl (is_failed _ c.args.reply.now err) c.load.ensures.same;
       stands = λ o some. some;
       asks = record { unasked = λ none. cc; few = c.load.ensures.called };
@@ -30,11 +30,11 @@ returns-in_err-take_in g c = record {
   took = load_unfinished (Some (Reads c.args.name.now)) load_reply
       (λ g found. load_action found) load_some
       (with_reply c.from_residual-in_err-take_in.result c.take_in.new.reply)
-      c.args.lent.now.map.now c.take_in.new.map _ _ c.args.name.now c.in_ok-loaded.loaded refl
+      c.args.context.now.map.now c.take_in.new.map _ _ c.args.name.now c.in_ok-loaded.loaded refl
       (failed_for _ c.take_in.new.reply store_fault.Memory
       c.from_residual-in_err-take_in.ensures.1) c.load.ensures.same c.in_err-take_in.ensures.done;
   stands = stands_where_done (with_reply c.take_in.result c.take_in.new.reply)
-      c.args.lent.now.map.now c.take_in.new.map
+      c.args.context.now.map.now c.take_in.new.map
       (λ s. load_reply s.base (Some c.in_ok-loaded.loaded))
       (λ s. load_action (Some c.in_ok-loaded.loaded)) c.take_in.ensures.done;
   asks = record { unasked = λ none. cc; few = c.load.ensures.called };
@@ -49,12 +49,12 @@ returns-in_err-take_in g c = record {
 pub returns : goal.returns
 returns g c = record {
   took = load_done (Some (Reads c.args.name.now)) load_reply (λ g found. load_action found)
-      c.args.lent.now.map.now c.take_in.new.map _ _ c.as_str.result.now c.args.name.now
+      c.args.context.now.map.now c.take_in.new.map _ _ c.as_str.result.now c.args.name.now
       c.in_ok-loaded.loaded
       c.take_in.new.reply refl c.as_str.ensures c.load.ensures.same c.in_ok-loaded.ensures.found
       c.in_ok-take_in.ensures.done;
   stands = stands_where_done (with_reply c.take_in.result c.take_in.new.reply)
-      c.args.lent.now.map.now c.take_in.new.map
+      c.args.context.now.map.now c.take_in.new.map
       (λ s. load_reply s.base (Some c.in_ok-loaded.loaded))
       (λ s. load_action (Some c.in_ok-loaded.loaded)) c.take_in.ensures.done;
   asks = record { unasked = λ none. cc; few = c.load.ensures.called };

@@ -56,14 +56,14 @@ pub returns-then-count-eq0-clause-reads : goal.returns-then-count-eq0-clause-rea
 returns-then-count-eq0-clause-reads g c =
     let gave = read g (goal.at.returns-then-count-eq0-clause-reads g c).After-take_piece in
     reads_end c.end.result c.args.options.now _ _ _ _
-    (seen g.K.Sink g.F.Store c.take_piece.new.lent c.take_piece.new.session) _
+    (seen g.K.Sink g.F.Store c.take_piece.new.context c.take_piece.new.session) _
     (turn_fits c.args.options.now _ _ _ _ _ _ _ gave
     (c.in_ok-take_piece.ensures.to.1 c.if-session.false))
     (turn_end c.args.options.now _ _ _ _ _ _ _ gave c.if-count-eq0.true
     (c.in_ok-count.ensures.end c.if-count-eq0.true))
     (done_join _ _ _ _ c.reading.invariant.done c.in_ok-take_piece.ensures.done)
     (reads_more c.args.options.now _ _ _ c.reading.taken _
-    (seen g.K.Sink g.F.Store c.args.lent.now c.args.session.now) _ _ c.reading.invariant.at
+    (seen g.K.Sink g.F.Store c.args.context.now c.args.session.now) _ _ c.reading.invariant.at
     (turn_taken c.args.options.now _ _ _ _ c.reading.taken _ _ _ _ c.reading.invariant.waits gave
     c.in_ok-take_piece.ensures) c.if-session.false)
     c.end.ensures
@@ -81,8 +81,8 @@ pub reading-preserved : goal.reading-preserved
 reading-preserved g c =
     let gave = read g (goal.at.reading-preserved g c).After-take_piece in
     let turn = turn_taken c.args.options.now _ _ _ _ c.reading.taken _ _
-    (seen g.K.Sink g.F.Store c.reading.lent c.reading.session)
-    (seen g.K.Sink g.F.Store c.take_piece.new.lent c.take_piece.new.session)
+    (seen g.K.Sink g.F.Store c.reading.context c.reading.session)
+    (seen g.K.Sink g.F.Store c.take_piece.new.context c.take_piece.new.session)
     c.reading.invariant.waits gave c.in_ok-take_piece.ensures in
     record {
       waits = record {
@@ -93,7 +93,7 @@ reading-preserved g c =
       };
       done = done_join _ _ _ _ c.reading.invariant.done turn.done;
       at = reads_more c.args.options.now _ _ _ c.reading.taken _
-          (seen g.K.Sink g.F.Store c.args.lent.now c.args.session.now) _ _
+          (seen g.K.Sink g.F.Store c.args.context.now c.args.session.now) _ _
           c.reading.invariant.at turn c.if-session.false;
       ends = c.in_ok-count.ensures.ends.before (omega (arith, c.if-count-eq0.false))
           ∙ c.reading.invariant.ends;

@@ -10,11 +10,12 @@ use Rattle.oct_session.proofs.PieceMoves.{closes_on, counts_written, counts_unwr
 use Rattle.oct_session.proofs.Moves.{ran_short}
 use Rattle.oct_session.proofs.session.Session.close.Goals as goal
 
-pub returns-in_err-tell : goal.returns-in_err-tell
-returns-in_err-tell g c =
+pub returns-in_err-append_reply : goal.returns-in_err-append_reply
+returns-in_err-append_reply g c =
     closes_on g.K.Sink c.from_residual.result _ _ _ _ _ c.from_residual.ensures.1 (record {
       to = closing_untold _ Memory _ c.args.self.now c.end_reply-reply.result c.requires.running
-          (c.end_reply-reply.ensures ∙ ap end_reply c.take.ensures.value) c.in_err-tell.ensures.err;
+          (c.end_reply-reply.ensures ∙ ap end_reply c.take.ensures.value)
+          c.in_err-append_reply.ensures.err;
       adds = ([], appended_nil _);
       counts = counts_unwritten _ _;
     })
@@ -24,10 +25,11 @@ returns-in_err-flush g c =
     let fault : SinkFault = c.in_err-flush.field-0.0 in
     closes_on g.K.Sink c.from_residual-in_err-flush.result _ _ _ _ _
     c.from_residual-in_err-flush.ensures.1 (record {
-      to = closing_cut fault _ _ c.args.self.now c.end_reply-reply.result c.tell.new.text.items _
+      to = closing_cut fault _ _ c.args.self.now c.end_reply-reply.result
+          c.append_reply.new.text.items _
           (ran_short g.K.Sink _ _ _ _ fault c.in_err-flush.ensures.passes) c.requires.running
           (c.end_reply-reply.ensures ∙ ap end_reply c.take.ensures.value)
-          (c.in_ok-tell.ensures.ok ∙ ap (λ x. x ++ text_of c.end_reply-reply.result)
+          (c.in_ok-append_reply.ensures.ok ∙ ap (λ x. x ++ text_of c.end_reply-reply.result)
           c.requires.empty)
           c.in_err-flush.ensures.passes.cut.1 c.in_err-flush.ensures.passes.cut.2;
       adds = c.in_err-flush.ensures.passes.adds;
@@ -39,10 +41,11 @@ returns g c = record {
   to = (
     c.flush.ensures.empty,
     λ w p at before.
-        closing_told w _ _ c.args.self.now _ p c.end_reply-reply.result c.tell.new.text.items
+        closing_told w _ _ c.args.self.now _ p c.end_reply-reply.result
+        c.append_reply.new.text.items
         c.requires.running at before
         (c.end_reply-reply.ensures ∙ ap end_reply c.take.ensures.value)
-        (c.in_ok-tell.ensures.ok ∙ ap (λ x. x ++ text_of c.end_reply-reply.result)
+        (c.in_ok-append_reply.ensures.ok ∙ ap (λ x. x ++ text_of c.end_reply-reply.result)
         c.requires.empty)
         (all_written _ _ _ _ c.in_ok-flush.ensures.passes.moved c.flush.ensures.empty) refl
         c.take.ensures.after (ap (λ b. c.args.self.now.refused || b) c.is_refused.ensures) refl

@@ -35,7 +35,7 @@ returns-in_err-taken-clause-does g c =
 pub returns-clause-does : goal.returns-clause-does
 returns-clause-does g c =
     let here = takes_flushed g.K.Sink _ _
-    (seen g.K.Sink g.F.Store c.loop-taken.lent c.loop-taken.self) _ _ c.loop-taken.self _ _
+    (seen g.K.Sink g.F.Store c.loop-taken.context c.loop-taken.self) _ _ c.loop-taken.self _ _
     c.loop-taken.invariant.takes c.in_ok-flush.ensures.passes
     (record { counted = refl; block = refl; refused = refl; has_quit = refl; tally = refl })
     refl c.flush.ensures.empty in
@@ -51,5 +51,5 @@ returns-in_err-flush-clause-does g c =
     makes_on c.from_residual-in_err-flush.result _ _ _ _ c.from_residual-in_err-flush.ensures.1
     (takes_part c.args.piece.now c.loop-taken.taken _ _ _
     (takes_unflushed g.K.Sink _ _
-    (seen g.K.Sink g.F.Store c.loop-taken.lent c.loop-taken.self) _ _ c.loop-taken.self _ _
+    (seen g.K.Sink g.F.Store c.loop-taken.context c.loop-taken.self) _ _ c.loop-taken.self _ _
     c.loop-taken.invariant.takes c.in_err-flush.ensures.passes))

@@ -5,8 +5,8 @@ use Rattle.oct_session.proofs.session.Session.take.Given as goal
 abbrev pub invariant-loop-taken : goal.invariant-loop-taken
 invariant-loop-taken g l = record {
   within : l.taken ≤ length l.piece;
-  takes : Makes (Take (take l.taken l.piece)) (seen g.K.Sink g.F.Store l.fn.lent l.fn.self)
-      (seen g.K.Sink g.F.Store l.lent l.self) None;
+  takes : Makes (Take (take l.taken l.piece)) (seen g.K.Sink g.F.Store l.fn.context l.fn.self)
+      (seen g.K.Sink g.F.Store l.context l.self) None;
 }
 
 abbrev pub decreases-loop-taken : goal.decreases-loop-taken

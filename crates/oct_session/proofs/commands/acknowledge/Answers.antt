@@ -2,7 +2,7 @@ use Rattle.std.proofs.Common.{subst, ap, Err, ◌∙◌}
 use Rattle.std.proofs.lemmas.Result.{on_err_weaker}
 use Rattle.oct_session.specs.Standing.{with_reply, HasCarriedOut}
 use Rattle.oct_session.proofs.Replying.{order_done, order_refused}
-use Rattle.oct_session.proofs.commands.say.Goals as goal
+use Rattle.oct_session.proofs.commands.acknowledge.Goals as goal
 
 pub returns-in-Ok-clause-obeyed : goal.returns-in-Ok-clause-obeyed
 returns-in-Ok-clause-obeyed c = λ old new order did.

@@ -15,7 +15,7 @@ use oct_script::{Reply, push_reply};
 pub const MOST_HELD: usize = 4096;
 
 /// Appends the text of a reply. After an error the text is as it was.
-pub fn tell(text: &mut Vec<u8>, reply: &Option<Reply>) -> Result<(), Memory>
+pub fn append_reply(text: &mut Vec<u8>, reply: &Option<Reply>) -> Result<(), Memory>
     ensures ok { OnOk result (text.new.items ≡ text.old.items ++ text_of reply.now) }
     ensures err { OnErr result (IsSome reply.now) }
     ensures kept { OnErr result (text.new.items ≡ text.old.items) }
@@ -37,7 +37,11 @@ pub fn flush<K: Sink>(text: &mut Vec<u8>, sink: &mut K) -> Result<(), SinkFault>
 }
 
 /// Writes the replies that are held, before a line that may change the map, or names a file.
-pub fn make_way<K: Sink>(parsed: &Parsed, text: &mut Vec<u8>, sink: &mut K) -> Result<(), SinkFault>
+pub fn flush_before_change<K: Sink>(
+    parsed: &Parsed,
+    text: &mut Vec<u8>,
+    sink: &mut K,
+) -> Result<(), SinkFault>
     ensures passes { Passes K.Sink sink.old sink.new text.old.items text.new.items result }
     ensures clear { OnOk result
         ((text.new.items ≡ []) ⊎ (may_change (command_in parsed.now) ≡ false)) }
@@ -50,7 +54,7 @@ pub fn make_way<K: Sink>(parsed: &Parsed, text: &mut Vec<u8>, sink: &mut K) -> R
 }
 
 /// Writes the replies that are held, where they are many.
-pub fn hold_few<K: Sink>(text: &mut Vec<u8>, sink: &mut K) -> Result<(), SinkFault>
+pub fn flush_if_full<K: Sink>(text: &mut Vec<u8>, sink: &mut K) -> Result<(), SinkFault>
     ensures passes { Passes K.Sink sink.old sink.new text.old.items text.new.items result }
     ensures few { OnOk result (length text.new.items < MOST_HELD) }
     ensures kept { length text.old.items < MOST_HELD → text.new.items ≡ text.old.items }

@@ -9,11 +9,11 @@ use Rattle.oct_session.proofs.MapHistory.{stands_likened, stands_tracked, stands
 use Rattle.oct_session.proofs.MapHistory.{stands_unlimited}
 use Rattle.oct_session.proofs.Replying.{carried_as, edit_carried, box_carried, limit_carried}
 use Rattle.oct_session.proofs.RunningOut.{order_runs_out, limit_calm}
-use Rattle.oct_session.proofs.commands.obey.Goals as goal
+use Rattle.oct_session.proofs.commands.execute.Goals as goal
 
 pub returns-in-Edit-clause-obeyed : goal.returns-in-Edit-clause-obeyed
 returns-in-Edit-clause-obeyed c =
-    c.say.ensures.obeyed c.args.map.now c.edit.new.self c.args.order
+    c.acknowledge.ensures.obeyed c.args.map.now c.edit.new.self c.args.order
     (carried_as c.edit.result c.args.map.now c.edit.new.self c.args.order
     (Edit c.in-Edit.p c.in-Edit.e c.in-Edit.lazy) c.in-Edit.is
     (edit_carried c.edit.result c.args.map.now c.edit.new.self c.in-Edit.p c.in-Edit.e
@@ -26,7 +26,7 @@ returns-in-Edit-clause-obeyed c =
 
 pub returns-in-Box-clause-obeyed : goal.returns-in-Box-clause-obeyed
 returns-in-Box-clause-obeyed c =
-    c.say-in-Box.ensures.obeyed c.args.map.now c.edit_box.new.self c.args.order
+    c.acknowledge-in-Box.ensures.obeyed c.args.map.now c.edit_box.new.self c.args.order
     (carried_as c.edit_box.result c.args.map.now c.edit_box.new.self c.args.order
     (Box c.in-Box.lo c.in-Box.hi c.in-Box.e) c.in-Box.is
     (box_carried c.edit_box.result c.args.map.now c.edit_box.new.self c.in-Box.lo c.in-Box.hi
@@ -39,7 +39,7 @@ returns-in-Box-clause-obeyed c =
 
 pub returns-in-Limit-clause-obeyed : goal.returns-in-Limit-clause-obeyed
 returns-in-Limit-clause-obeyed c =
-    c.say-in-Limit.ensures.obeyed c.args.map.now c.limit.new.self c.args.order
+    c.acknowledge-in-Limit.ensures.obeyed c.args.map.now c.limit.new.self c.args.order
     (carried_as c.limit.result c.args.map.now c.limit.new.self c.args.order
     (Limit c.in-Limit.lo c.in-Limit.hi) c.in-Limit.is
     (limit_carried c.limit.result c.args.map.now c.limit.new.self c.in-Limit.lo c.in-Limit.hi
@@ -47,7 +47,7 @@ returns-in-Limit-clause-obeyed c =
 
 pub returns-in-NoLimit-clause-obeyed : goal.returns-in-NoLimit-clause-obeyed
 returns-in-NoLimit-clause-obeyed c =
-    c.say-in-NoLimit.ensures.obeyed c.args.map.now c.no_limit.new.self c.args.order
+    c.acknowledge-in-NoLimit.ensures.obeyed c.args.map.now c.no_limit.new.self c.args.order
     (carried_as (Ok tt) c.args.map.now c.no_limit.new.self c.args.order NoLimit c.in-NoLimit.is
     (λ s at. (
       refl,
@@ -57,7 +57,7 @@ returns-in-NoLimit-clause-obeyed c =
 pub returns-in-Refresh-clause-obeyed : goal.returns-in-Refresh-clause-obeyed
 returns-in-Refresh-clause-obeyed c =
     let fresh = c.refresh.ensures in
-    c.say-in-Refresh.ensures.obeyed c.args.map.now c.refresh.new.self c.args.order
+    c.acknowledge-in-Refresh.ensures.obeyed c.args.map.now c.refresh.new.self c.args.order
     (carried_as (Ok tt) c.args.map.now c.refresh.new.self c.args.order Refresh c.in-Refresh.is
     (λ s at. (
       refl,
@@ -68,7 +68,7 @@ returns-in-Refresh-clause-obeyed c =
 pub returns-in-Prune-clause-obeyed : goal.returns-in-Prune-clause-obeyed
 returns-in-Prune-clause-obeyed c =
     let pruned = c.prune.ensures in
-    c.say-in-Prune.ensures.obeyed c.args.map.now c.prune.new.self c.args.order
+    c.acknowledge-in-Prune.ensures.obeyed c.args.map.now c.prune.new.self c.args.order
     (carried_as (Ok tt) c.args.map.now c.prune.new.self c.args.order Prune c.in-Prune.is
     (λ s at. (
       refl,
@@ -79,7 +79,7 @@ returns-in-Prune-clause-obeyed c =
 pub returns-in-Clear-clause-obeyed : goal.returns-in-Clear-clause-obeyed
 returns-in-Clear-clause-obeyed c =
     let cleared = c.clear.ensures in
-    c.say-in-Clear.ensures.obeyed c.args.map.now c.clear.new.self c.args.order
+    c.acknowledge-in-Clear.ensures.obeyed c.args.map.now c.clear.new.self c.args.order
     (carried_as (Ok tt) c.args.map.now c.clear.new.self c.args.order Clear c.in-Clear.is
     (λ s at. (
       refl,
@@ -90,7 +90,7 @@ returns-in-Clear-clause-obeyed c =
 pub returns-in-MaxLik-clause-obeyed : goal.returns-in-MaxLik-clause-obeyed
 returns-in-MaxLik-clause-obeyed c =
     let likened = c.max_likelihood.ensures in
-    c.say-in-MaxLik.ensures.obeyed c.args.map.now c.max_likelihood.new.self c.args.order
+    c.acknowledge-in-MaxLik.ensures.obeyed c.args.map.now c.max_likelihood.new.self c.args.order
     (carried_as (Ok tt) c.args.map.now c.max_likelihood.new.self c.args.order MaxLik c.in-MaxLik.is
     (λ s at. (
       refl,
@@ -100,7 +100,7 @@ returns-in-MaxLik-clause-obeyed c =
 
 pub returns-in-Track-clause-obeyed : goal.returns-in-Track-clause-obeyed
 returns-in-Track-clause-obeyed c =
-    c.say-in-Track.ensures.obeyed c.args.map.now c.track.new.self c.args.order
+    c.acknowledge-in-Track.ensures.obeyed c.args.map.now c.track.new.self c.args.order
     (carried_as (Ok tt) c.args.map.now c.track.new.self c.args.order Track c.in-Track.is
     (λ s at. (
       refl,
@@ -110,7 +110,7 @@ returns-in-Track-clause-obeyed c =
 
 pub returns-in-Untrack-clause-obeyed : goal.returns-in-Untrack-clause-obeyed
 returns-in-Untrack-clause-obeyed c =
-    c.say-in-Untrack.ensures.obeyed c.args.map.now c.untrack.new.self c.args.order
+    c.acknowledge-in-Untrack.ensures.obeyed c.args.map.now c.untrack.new.self c.args.order
     (carried_as (Ok tt) c.args.map.now c.untrack.new.self c.args.order Untrack c.in-Untrack.is
     (λ s at. (
       refl,
@@ -119,20 +119,20 @@ returns-in-Untrack-clause-obeyed c =
 
 pub returns-in-Edit-clause-memory : goal.returns-in-Edit-clause-memory
 returns-in-Edit-clause-memory c =
-    order_runs_out c.say.result c.args.map.now c.args.order
+    order_runs_out c.acknowledge.result c.args.map.now c.args.order
     (Edit c.in-Edit.p c.in-Edit.e c.in-Edit.lazy)
-    c.edit.result c.in-Edit.is c.say.ensures.memory c.edit.ensures.memory
+    c.edit.result c.in-Edit.is c.acknowledge.ensures.memory c.edit.ensures.memory
 
 pub returns-in-Box-clause-memory : goal.returns-in-Box-clause-memory
 returns-in-Box-clause-memory c =
-    order_runs_out c.say-in-Box.result c.args.map.now c.args.order
+    order_runs_out c.acknowledge-in-Box.result c.args.map.now c.args.order
     (Box c.in-Box.lo c.in-Box.hi c.in-Box.e)
-    c.edit_box.result c.in-Box.is c.say-in-Box.ensures.memory c.edit_box.ensures.memory
+    c.edit_box.result c.in-Box.is c.acknowledge-in-Box.ensures.memory c.edit_box.ensures.memory
 
 pub returns-in-Limit-clause-memory : goal.returns-in-Limit-clause-memory
 returns-in-Limit-clause-memory c =
-    order_runs_out c.say-in-Limit.result c.args.map.now c.args.order
+    order_runs_out c.acknowledge-in-Limit.result c.args.map.now c.args.order
     (Limit c.in-Limit.lo c.in-Limit.hi)
-    c.limit.result c.in-Limit.is c.say-in-Limit.ensures.memory
+    c.limit.result c.in-Limit.is c.acknowledge-in-Limit.ensures.memory
     (λ memory. absurd (limit_calm c.limit.result (ground_of c.args.map.now) c.in-Limit.lo
     c.in-Limit.hi c.limit.ensures.answer memory))
