@@ -19,10 +19,25 @@ from octofix.io.optional import wanted
 COMMAND = [sys.executable, "-m", "octofix"]
 LIMIT = 1 << 30  # bytes of a file that the library takes
 SOON = 2  # seconds
-# Notes how many vertices were drawn, and when a map was opened and first seen, by a pixel that is
-# not white.
+# The colours of what is in the first of two maps alone, in the second, and free in one.
+RED, BLUE, ORANGE = (214, 57, 57), (44, 120, 220), (240, 147, 43)
+ELSEWHERE = 0.75, -0.85, 0.05  # which one of both rooms knows
+# Each with the rule of the page's policy that refuses it.
+WAYS_OUT = {
+    "connect-src": "navigator.sendBeacon('{}', 'a map');",
+    "connect-src of sockets": "try {{ new WebSocket('wss://octofix.invalid/') }} catch {{}}",
+    "img-src": "new Image().src = '{}';",
+    "script-src-elem": "document.head.append(Object.assign("
+    "document.createElement('script'), {{src: '{}'}}));",
+    "frame-src": "document.body.append(Object.assign("
+    "document.createElement('iframe'), {{src: '{}'}}));",
+    "form-action": "const form = Object.assign(document.createElement('form'), "
+    "{{action: '{}', method: 'post'}}); document.body.append(form); form.submit();",
+}
+# Notes how many vertices were drawn, whether there was a bar, and when a map was opened and first
+# seen, by a pixel that is not white.
 WATCH = """
-    window.seen = {vertices: 0};
+    window.seen = {vertices: 0, bar: false};
     const {drawArrays} = WebGL2RenderingContext.prototype;
     WebGL2RenderingContext.prototype.drawArrays = function (kind, first, many) {
       seen.vertices += many;
@@ -44,6 +59,7 @@ WATCH = """
     };
     const look = setInterval(() => {
       const painter = window.viewer?.painter;
+      seen.bar ||= !document.getElementById("bar").hidden;
       if (window.page?.maps.length) seen.opened ??= performance.now();
       if (painter && !Object.hasOwn(painter, "time")) leaveOutTime(painter);
       if (!painter?.solid.drawn || !isSeen(painter)) return;
@@ -66,6 +82,15 @@ def other_room(world):
     world.edit_box((0, 0, 0.15), (0.35, 0.35, 0.55), Event.SET, -400)
     world.edit_box((-0.5, -0.5, 0.1), (-0.35, -0.35, 0.45), Event.SET, 850)
     world.edit_box((0.5, -1, 0), (0.95, -0.65, 1.05), Event.FORGET)
+
+
+def posts(world):
+    """Two pairs of posts 1 m apart, one 0.2 m higher than the other: between the first lie free
+    voxels, between the second an unknown one among them."""
+    for y in (-0.25, 0.25):
+        world.edit_box((-0.45, y, 0.05), (0.45, y, 0.25), Event.SET, -400)
+        world.set([[-0.45, y, 0.05], [0.55, y, 0.25]], 850)
+    world.edit_box((0.25, 0.25, 0.05), (0.25, 0.25, 0.25), Event.FORGET)
 
 
 def street(world):
@@ -190,6 +215,7 @@ class Page(unittest.TestCase):
         self.window.until("seen.first")
         took = self.window.processor_time() - before
         seen = self.window.js("seen")
+        self.assertTrue(seen["bar"])
         # (other work on the machine lengthens what the clock says)
         self.assertLess(min(took, (seen["first"] - seen["opened"]) / 1000), SOON)
         self.settle()
@@ -237,6 +263,31 @@ class Page(unittest.TestCase):
         self.told(first)
         self.assertIn("14 occupied (0.014 m³); 0 free (0.000 m³); 0 unknown", self.told(last))
 
+    def test_ways_between_posts(self):
+        """A way that meets nothing, one that meets the unknown, and a box with voxels of each
+        class."""
+        with Map(0.1) as world:
+            posts(world)
+            world.snapshot(self.folder / "posts.snap")
+            keys = world.keys([[x, y, z] for y in (-0.25, 0.25)
+                               for x, z in ((-0.45, 0.05), (0.55, 0.25))])  # fmt: skip
+        self.start()
+        self.drop("posts.snap")
+        self.window.js("viewer.look(0, 60)")
+        self.window.settle()
+        pixels = [self.pixel_of(it) for it in keys]
+        far = "1.020 m away; 1.000 m across; {} m up; the straight way meets "
+        self.choose("click", "way")
+        self.assertEqual(self.told(*pixels[:2]), far.format("0.200") + "nothing")
+        # (at the unknown voxels the way rises from 0.18 m to 0.2 m)
+        wanted = far.format("-0.200") + "unknown at 0.25 0.25 0.15 m first"
+        self.assertEqual(self.told(*pixels[:1:-1]), wanted)
+        # 11 x 3 voxels, of which 30 were made free, and three of them forgotten
+        self.choose("click", "box")
+        wanted = "a box of 1.1 × 0.1 × 0.3 m; 2 occupied (0.002 m³); {} free ({} m³); {} unknown "
+        self.assertIn(wanted.format(29, "0.029", 2), self.told(*pixels[:2]))
+        self.assertIn(wanted.format(26, "0.026", 5), self.told(*pixels[2:]))
+
     def test_two_maps(self):
         self.start()
         self.drop("one.snap", "two.snap")
@@ -253,16 +304,31 @@ class Page(unittest.TestCase):
         for one, other in ((a, b) for a in table for b in table[a]):
             many = table[one][other]
             self.assertTrue(rows[f"{one}, {other}"].startswith(f"{many:,} ("), (one, other, rows))
-        # the pillar's top, which is free in the second, has the colour of what differs
-        self.window.js("viewer.look(270, 90)")
-        key = self.worlds["one"].keys([(0.15, 0.15, 0.55)])[0]
-        x, y = self.pixel_of(key)
-        seen = self.window.pixels()[int(y) - 3 : int(y) + 4, int(x) - 3 : int(x) + 4]
-        middle = np.median(seen.reshape(-1, 3), axis=0)
-        self.assertLess(np.abs(middle - (240, 147, 43)).max(), 12)
+        # the pillar's top, which is free in the second, has the colour of what differs, and the
+        # floor that is unknown there that of what is in the first alone
+        x, y = self.seen_at((0.15, 0.15, 0.55), ORANGE)
+        self.seen_at(ELSEWHERE, RED)
         text = "at 0.15 0.15 0.55 m: first occupied, value 1250, probability 0.777; second free, "
         self.assertIn(f"{text}value -400", self.told((x, y)))
+        # the other way round it is in the second alone
+        self.choose("maps", "1")
+        self.window.until("document.getElementById('title').textContent === 'two.snap'")
+        self.settle()
+        self.choose("other", "0")
+        self.window.until("document.getElementById('title').textContent.includes('beside')")
+        self.settle()
+        self.seen_at(ELSEWHERE, BLUE)
         self.assertEqual(self.window.faults(), [])
+
+    def seen_at(self, place, colour):
+        """Where a voxel is seen from above, which has this colour."""
+        self.window.js("viewer.look(270, 90)")
+        self.settle()
+        x, y = self.pixel_of(self.worlds["one"].keys([place])[0])
+        seen = self.window.pixels()[int(y) - 3 : int(y) + 4, int(x) - 3 : int(x) + 4]
+        middle = np.median(seen.reshape(-1, 3), axis=0)
+        self.assertLess(np.abs(middle - colour).max(), 12)
+        return x, y
 
     def given(self, button, name):
         """The file that a button gives."""
@@ -347,13 +413,29 @@ class Page(unittest.TestCase):
         self.drop("two.bt")
         self.assertEqual((self.said("fault"), self.said("title")), ("", "two.bt"))
 
+    def test_a_browser_without_webgl(self):
+        """The file is whole, and isn't told to be at fault."""
+        self.start("HTMLCanvasElement.prototype.getContext = () => null;")
+        self.drop("one.bt")
+        self.assertEqual(self.said("fault"), "one.bt can't be shown: this browser has no WebGL 2.")
+
     def test_nothing_goes_out(self):
+        """The page's policy refuses each way out."""
+        self.addCleanup(self.window.faults)  # (which are this test's own)
         self.start()
         refused = self.window.js(
             "fetch('https://octofix.invalid/').then(() => 'sent', why => why.name)"
         )
         self.assertEqual(refused, "TypeError")
         self.assertTrue(any("Content Security Policy" in it for it in self.window.faults()))
+        for rule, way in WAYS_OUT.items():
+            violated = self.window.js(f"""new Promise(done => {{
+                const listen = it => done(it.effectiveDirective);
+                addEventListener("securitypolicyviolation", listen, {{once: true}});
+                setTimeout(done, 5000, "none");
+                {way.format("https://octofix.invalid/")}
+            }})""")
+            self.assertEqual(violated, rule.split()[0], way)
 
 
 def sorted_points(file):

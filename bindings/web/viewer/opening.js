@@ -58,7 +58,8 @@ class Page {
 
   // Opens files, one after another, and shows the last one that could be opened.
   take(files) {
-    for (const file of files) this.next(() => this.open(file));
+    for (const file of files)
+      this.next(() => this.open(file), `${file.name} can't be shown`);
   }
 
   // Does something once what was asked before is done, with the bar; `said` begins what is said
@@ -76,17 +77,24 @@ class Page {
   }
 
   async open(file) {
+    let map;
     try {
-      if (file.size > MOST_BYTES)
-        throw new Error(`it has ${count(file.size)} bytes, and a map has at most 2^30`);
-      const began = performance.now(), bytes = new Uint8Array(await file.arrayBuffer());
-      const about = await this.desk.call("open", bytes);
-      this.say("");
-      this.maps.push({name: file.name, took: performance.now() - began, ...about});
-      await this.show(this.maps.at(-1));
+      map = await this.read(file);
     } catch (why) {
       this.say(`${file.name} can't be opened: ${why.message}.`);
+      return;
     }
+    this.say("");
+    this.maps.push(map);
+    await this.show(map);
+  }
+
+  async read(file) {
+    if (file.size > MOST_BYTES)
+      throw new Error(`it has ${count(file.size)} bytes, and a map has at most 2^30`);
+    const began = performance.now(), bytes = new Uint8Array(await file.arrayBuffer());
+    const about = await this.desk.call("open", bytes);
+    return {name: file.name, took: performance.now() - began, ...about};
   }
 
   leave() {
