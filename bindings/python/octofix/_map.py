@@ -36,6 +36,14 @@ class Map(native.Map):
 
     Several threads may use one map: questions are answered side by side, and what changes the map
     has it alone. `with Map(0.1) as world:` closes it at the end.
+
+    A class made of `Map` may replace any call. Others ask it in these cases alone: `probabilities`
+    asks `get`, `key_of` `keys`, `middle` `centers`, `extent` `bounds`, `save` `to_bt`, `load`
+    `load_bt`, `snapshot` `to_snapshot`, `restore` `load_snapshot`, and the end of `with` `close`;
+    `merge` of a map with itself asks `prune`; and `scan_in_parts` asks `scan`, of many beams also
+    `centers` and `to_snapshot`, and `load_snapshot` where it fails. So `set`, `add`, `hit`, `miss`
+    and `forget` don't ask `edit`, and copies and pickles ask none. `from_bt` and its kin call the
+    class with a resolution and with settings.
     """
 
     def __init__(
@@ -139,7 +147,7 @@ class Map(native.Map):
         return made
 
     def __reduce__(self) -> tuple[Any, ...]:
-        arguments = type(self), self.resolution, self.limits, self.to_snapshot()
+        arguments = type(self), self.resolution, self.limits, Map.to_snapshot(self)
         return _rebuilt, arguments, self.__getstate__() or None
 
     def __getstate__(self) -> Any:
@@ -472,7 +480,8 @@ def _rebuilt(kind: type[_Map], resolution: float, limits: Limits, snapshot: byte
     """The map of a snapshot, for pickles."""
     made = kind.__new__(kind)
     Map.__init__(made, resolution, **limits._asdict())
-    made.load_snapshot(snapshot)
+    # (what a class has put in its place may need what isn't set yet)
+    Map.load_snapshot(made, snapshot)
     return made
 
 
