@@ -450,7 +450,8 @@ class Mapper:
     def _measured(self, points: npt.NDArray[Any], at: Pose) -> npt.NDArray[Any]:
         """The points that are measurements, in metres, and lie in the box."""
         with np.errstate(invalid="ignore", over="ignore"):
-            points = points if self._scale in (None, 1) else points * float(self._scale)
+            scale = 1 if self._scale is None else self._scale
+            points = points if scale == 1 else points * float(scale)
             away = np.square(points, dtype=float).sum(axis=1)
             points = points[away < _FARTHEST**2]
         if self._is_bounded:

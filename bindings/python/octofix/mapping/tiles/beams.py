@@ -56,8 +56,8 @@ def met(lattice: Lattice, origins: Ints, ways: Ints, margin: int = 0) -> tuple[I
         box = lattice.box(low[asked])[0], lattice.box(high[asked])[1]
         is_near[asked] = _come_near(origins[some], ways[some], *box, lattice.edge)
         rows, low, high = rows[is_near], low[is_near], high[is_near]
-    none = np.empty(0, np.int64), np.empty((0, 3), np.int64)
-    return tuple(map(np.concatenate, zip(none, *found)))
+    rows_of, places = zip((np.empty(0, np.int64), np.empty((0, 3), np.int64)), *found)
+    return np.concatenate(rows_of), np.concatenate(places)
 
 
 def _axes(wide: Ints) -> np.ndarray:

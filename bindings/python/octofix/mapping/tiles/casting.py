@@ -87,8 +87,8 @@ def _cast_far(asked: Asked, tile: Place, row: int, ways, found) -> None:
 
 def _cast(world: Map, asked: Asked, middle: Ints, rows: Ints, ways, found) -> None:
     """Casts ways in a map around a voxel of the world."""
-    local = [(it[rows] - middle * asked.lattice.edge) / NANO for it in ways]
-    kinds, keys = world.cast(*local, asked.ignores_unknown)
+    origins, ends = ((it[rows] - middle * asked.lattice.edge) / NANO for it in ways)
+    kinds, keys = world.cast(origins, ends, asked.ignores_unknown)
     # (a way may come near to two tiles as many faces away, and meets one of them)
     is_stopped = kinds != CastKind.CLEAR
     found[0][rows[is_stopped]] = kinds[is_stopped]

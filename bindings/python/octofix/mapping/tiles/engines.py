@@ -74,8 +74,10 @@ class Processes(Engine):
         before = signal.pthread_sigmask(signal.SIG_BLOCK, _SIGNALS)
         try:
             ends = context.Pipe(duplex=False)
-            how = {"mp_context": context, "initializer": _begin_worker, "initargs": ends}
-            super().__init__(futures.ProcessPoolExecutor(self._count, **how))
+            pool = futures.ProcessPoolExecutor(
+                self._count, mp_context=context, initializer=_begin_worker, initargs=ends
+            )
+            super().__init__(pool)
             self._end = ends[1]
             self.executor.submit(int)
         finally:

@@ -3,7 +3,7 @@
 from __future__ import annotations
 
 from dataclasses import dataclass
-from typing import Iterator
+from typing import Iterable, Iterator
 
 import numpy as np
 import numpy.typing as npt
@@ -77,6 +77,12 @@ def tile_of(name: str) -> Place:
     return x, y, z
 
 
+def place_of(numbers: Iterable[int]) -> Place:
+    """Three whole numbers, as of an array, as a place."""
+    x, y, z = map(int, numbers)
+    return x, y, z
+
+
 def grouped(tiles: Ints) -> Iterator[tuple[Place, Ints]]:
     """Each of the tiles that are there once, and the rows that have it, in their order."""
     if not len(tiles):
@@ -85,7 +91,7 @@ def grouped(tiles: Ints) -> Iterator[tuple[Place, Ints]]:
     order = np.argsort(numbers, kind="stable")
     firsts = np.flatnonzero(np.diff(numbers[order])) + 1
     for rows in np.split(order, firsts):
-        yield tuple(tiles[rows[0]].tolist()), rows
+        yield place_of(tiles[rows[0]]), rows
 
 
 def _numbers(tiles: Ints) -> npt.NDArray:

@@ -10,7 +10,7 @@ import numpy as np
 from octofix import Event, Map, Refused
 
 from .errors import BadTiles
-from .lattice import HALF, NANO, Ints, Lattice, Place, grouped
+from .lattice import HALF, NANO, Ints, Lattice, Place, grouped, place_of
 from .plans import Settings
 from .trees import UNKNOWN, Leaves, header, joined, node_of, whole
 
@@ -83,7 +83,7 @@ def moved(world: Map, settings: Settings, tile: Place, middle: Ints, is_walled: 
         cube = 2 * np.array(tile) + step
         place = cube - first
         if ((place >= 0) & (place < 1 << depth)).all():
-            cubes[tuple(place.tolist())] = found.get(tuple(cube.tolist()), UNKNOWN)
+            cubes[place_of(place)] = found.get(place_of(cube), UNKNOWN)
     rest = whole(settings.odds.min) if is_walled else UNKNOWN
     return header(settings.resolution, settings.odds) + joined(cubes, depth, rest)
 
@@ -100,14 +100,14 @@ def _shift_of(cubes: Ints, room: int) -> Ints:
 
 def _snapshots(settings: Settings, cubes: dict[Place, bytes], shift: Ints) -> Iterator[bytes]:
     """Snapshots of the cubes, each of some of them."""
-    lattice, some, size = settings.lattice(), {}, 0
-    depth = 16 - (lattice.log2 - 1)
+    some: dict[Place, bytes] = {}
+    size, depth = 0, 16 - (settings.lattice().log2 - 1)
     head = header(settings.resolution, settings.odds)
     for cube, node in cubes.items():
         if some and size + len(node) > _PIECE:
             yield head + joined(some, depth)
             some, size = {}, 0
-        some[tuple((np.array(cube) - shift + (1 << depth - 1)).tolist())] = node
+        some[place_of(np.array(cube) - shift + (1 << depth - 1))] = node
         size += len(node)
     yield head + joined(some, depth)
 

@@ -21,7 +21,7 @@ from octofix.io.trajectory import InTurn
 from ..surveys import expect_subtracted
 from . import folder as files
 from .errors import BadTiles
-from .lattice import Lattice
+from .lattice import Lattice, place_of
 
 # Into about how many pieces clouds are parted, and the bytes that a piece has at least and at most.
 CHUNKS, LEAST, MOST = 400, 4 << 20, 64 << 20
@@ -41,9 +41,10 @@ class Settings(NamedTuple):
     @staticmethod
     def of(found: dict[str, Any]) -> Settings:
         """Those that `asdict` made."""
-        x_y_z = found.get("origin")
-        origin = None if x_y_z is None else tuple(x_y_z)
-        return Settings(**{**found, "odds": Odds(**found["odds"]), "origin": origin})
+        origin = found.get("origin")
+        return Settings(**found)._replace(
+            odds=Odds(**found["odds"]), origin=None if origin is None else place_of(origin)
+        )
 
     def asdict(self) -> dict[str, Any]:
         origin = None if self.origin is None else [*self.origin]
@@ -53,7 +54,7 @@ class Settings(NamedTuple):
         """The same with what is subtracted from clouds, in metres; Unusable where tiles of this
         name have another origin."""
         expect_subtracted(self.origin, subtracted, name)
-        asked = None if subtracted is None else tuple(nanometres(subtracted).tolist())
+        asked = None if subtracted is None else place_of(nanometres(subtracted))
         return self._replace(origin=self.origin or asked)
 
     def lattice(self) -> Lattice:
@@ -84,8 +85,8 @@ class Plan(NamedTuple):
 
     def does_the_same(self, other: Plan) -> bool:
         """Whether both read the same into the same tiles."""
-        apart = {"run": "", "skipped": 0, "is_quiet": False}
-        return self._replace(**apart) == other._replace(**apart)
+        mine, its = (it._replace(run="", skipped=0, is_quiet=False) for it in (self, other))
+        return mine == its
 
 
 def options_of(words: Sequence[object]) -> argparse.Namespace:

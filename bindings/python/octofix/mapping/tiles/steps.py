@@ -89,9 +89,11 @@ def resume(folder: str) -> str | None:
 
 def _index_for(folder: str, settings: Settings | None) -> dict[str, Any]:
     index = files.read_index(folder)
-    if index is None and settings is None:
-        raise BadTiles("there are no tiles (octofix tiles build FOLDER makes some)", folder)
-    if index is None or settings is not None and index["run"] == 0:
+    if settings is None:
+        if index is None:
+            raise BadTiles("there are no tiles (octofix tiles build FOLDER makes some)", folder)
+        return index
+    if index is None or index["run"] == 0:
         os.makedirs(folder, exist_ok=True)
         return new_index(settings)
     return index
@@ -197,7 +199,8 @@ def _scans_of(folder: str, run: str, chunk: int):
 def _parted(
     scans: Iterable[Scan], plan: Plan, skips: Skips, told: Told
 ) -> dict[Place, list[bytes]]:
-    lattice, parted = Settings.of(plan.settings).lattice(), {}
+    lattice = Settings.of(plan.settings).lattice()
+    parted: dict[Place, list[bytes]] = {}
     told.update(scans=0, points=0)
     for scan in scans:
         try:
@@ -258,7 +261,8 @@ def gathered(folder: str, run: str) -> dict[str, Any]:
 
 
 def _gathered(folder: str, run: str) -> dict[str, Any]:
-    slices, total = {}, {"said": [], "left": {}}
+    slices: dict[str, Any] = {}
+    total: dict[str, Any] = {"said": [], "left": {}}
     lacking = [it for it in _all_chunks(folder, run) if not os.path.exists(_parts(folder, run, it))]
     if lacking:
         said = f"{len(lacking)} of {len(_all_chunks(folder, run))} pieces of clouds aren't parted"

@@ -114,7 +114,8 @@ def joined(cubes: dict[Place, bytes], depth: int, rest: bytes = UNKNOWN) -> byte
         return rest
     if depth == 0:
         return cubes[0, 0, 0]
-    bit, mask, parts = depth - 1, (1 << depth - 1) - 1, [{} for _ in range(8)]
+    bit, mask = depth - 1, (1 << depth - 1) - 1
+    parts: list[dict[Place, bytes]] = [{} for _ in range(8)]
     for (x, y, z), node in cubes.items():
         child = (x >> bit & 1) + 2 * (y >> bit & 1) + 4 * (z >> bit & 1)
         parts[child][x & mask, y & mask, z & mask] = node
