@@ -112,7 +112,7 @@ CONVERT(convert_floats, float)
 /* Two numbers at once. */
 typedef double pair __attribute__((vector_size(16)));
 typedef float float_pair __attribute__((vector_size(8)));
-typedef int64_t whole_pair __attribute__((vector_size(16)));
+typedef uint64_t bits_pair __attribute__((vector_size(16)));
 
 /* From 2^52 up to 2^53 the last bit of a double is worth 1. So a sum of ROUNDER and a number below
  * 2^51 is rounded to a whole number, halves to even, as llrint does it; and the first bits of each
@@ -124,15 +124,15 @@ enum { AFTER_EXPONENT = 52, AHEAD = 4096 };
 #define CONVERT_PAIRS(name, type)                                                                  \
     static bool name(const char *from, size_t count, int64_t *to) {                                \
         const pair rounder = {ROUNDER, ROUNDER};                                                   \
-        whole_pair differing = {0, 0};                                                             \
+        bits_pair differing = {0, 0};                                                              \
         for (size_t at = 0; at < count; at += 2, from += sizeof(type)) {                           \
             type metres;                                                                           \
             __builtin_prefetch(from + AHEAD);                                                      \
             memcpy(&metres, from, sizeof metres);                                                  \
             const pair sum = __builtin_convertvector(metres, pair) * NANOMETRES + rounder;         \
-            const whole_pair rounded = (whole_pair)sum - (whole_pair)rounder;                      \
+            const bits_pair rounded = (bits_pair)sum - (bits_pair)rounder;                         \
             memcpy(to + at, &rounded, sizeof rounded);                                             \
-            differing |= (whole_pair)sum ^ (whole_pair)rounder;                                    \
+            differing |= (bits_pair)sum ^ (bits_pair)rounder;                                      \
         }                                                                                          \
         return (uint64_t)(differing[0] | differing[1]) >> AFTER_EXPONENT == 0;                     \
     }
