@@ -86,7 +86,7 @@ def measure_one(name, call, most, beside=None):
         print(f"  in C++: {min(theirs):.3g} us", flush=True)
 
 
-def measure_ratio(name, call, most, beside, rounds=1, pairs=9):
+def measure_ratio(name, call, most, beside, rounds=1, pairs=31):
     """How many times as long Python takes as C++: the median of pairs."""
     it, cpp, points = beside
     found, least = [], []
@@ -123,16 +123,16 @@ def measure_batches(world, beside, draw):
     for name, number in (("one number", 5), ("a number each", numbers)):
         call = (beside, "set_all", many)
         name = f"set of {COUNT} points to {name}"
-        measure_ratio(name, lambda: world.set(many, number), 1.1, call)
+        measure_ratio(name, lambda: world.set(many, number), 1.15, call)
     ways = many[: COUNT // 10]
-    measure_ratio(f"cast of {len(ways)} ways", lambda: world.cast(HERE, ways), 1.1,
+    measure_ratio(f"cast of {len(ways)} ways", lambda: world.cast(HERE, ways), 1.15,
                   (beside, "cast_all", ways))  # fmt: skip
 
 
 def measure_scans(world, beside, draw):
     few = draw.uniform(-4, 4, (10, 3))
     measure_ratio("a scan of 10 beams", lambda: world.scan(few, HERE), 1.1,
-                  (beside, "scan", few), 500, 25)  # fmt: skip
+                  (beside, "scan", few), 500)  # fmt: skip
     many = draw.uniform(-4, 4, (COUNT, 3))
 
     def scan():
@@ -151,8 +151,7 @@ def measure_lists(draw):
         world.refresh()
         took = min(time_of(world.leaves, 1) for _ in range(5))
         report("a leaf as blocks", took / 1000 / len(world.leaves()), 0.4, " us")
-        report("a copy by a snapshot", min(time_of(world.copy, 1) for _ in range(2)) / 1e6, None,
-               " ms")  # fmt: skip
+        report("a copy", min(time_of(world.copy, 1) for _ in range(2)) / 1e6, None, " ms")
 
 
 def main():

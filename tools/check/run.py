@@ -10,6 +10,7 @@ all that were run have passed. The last line counts them, and what they left out
 """
 import argparse
 import contextlib
+import functools
 import os
 import re
 import signal
@@ -112,10 +113,21 @@ def built(how, *words):
     return done.stdout.strip()
 
 
+@functools.cache
+def python_with_numpy():
+    """The first Python that has numpy, as tools/check/options.sh looks for it, or this one."""
+    for it in os.environ.get("PYTHON", "python3 /usr/bin/python3").split():
+        with contextlib.suppress(FileNotFoundError):
+            if not subprocess.run([it, "-c", "import numpy"], stderr=subprocess.DEVNULL).returncode:
+                return it
+    return sys.executable
+
+
 def command_of(suite, places):
     """The words of a suite's command, with what stands for places in it."""
     found = [word for it in suite.words.split() for word in places.get(it, [it])]
-    return [str(ROOT / found[0]), *found[1:]]
+    words = [str(ROOT / found[0]), *found[1:]]
+    return [python_with_numpy(), *words] if found[0].endswith(".py") else words
 
 
 def places_for(found, given, room):
