@@ -45,4 +45,4 @@ if __name__ == "__main__":
     parser.add_argument("what", choices=TESTS)
     parser.add_argument("many", nargs="?", type=int, default=20000, metavar="MANY")
     parser.add_argument("--from", dest="seed", type=int, default=0, metavar="SEED")
-    sys.exit(main(parser.parse_args()) and 1)
+    sys.exit(main(parser.parse_intermixed_args()) and 1)

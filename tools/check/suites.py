@@ -12,8 +12,8 @@ class Suite:
     all is as it should be.
 
     Of its words `program` stands for `--program FILE` of a built octomap, `library` for `--library
-    FOLDER` of liboctofix.a, liboctofix.so.1 and octofix.wasm, `proved` for `--proved` where these are
-    proved.
+    FOLDER` of liboctofix.a, liboctofix.so.1 and octofix.wasm, `proved` for `--proved` where these
+    are proved.
     What the suite leaves out for want of something it says in lines `left out: N WHAT`.
     """
 
