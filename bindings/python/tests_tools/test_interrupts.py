@@ -91,6 +91,21 @@ def parse(*words):
 command._parsed = parse
 run()
 """
+# Whoever hears the signals hasn't gone when one comes behind all that the command does.
+BEHIND = """
+import os, signal
+from octofix._program import run
+from octofix.cli.interrupts import INTERRUPTS
+class Heard:
+    def __enter__(self):
+        self.it = heard()
+        return self.it.__enter__()
+    def __exit__(self, *of):
+        os.kill(os.getpid(), signal.SIGINT)
+        return self.it.__exit__(*of)
+heard, INTERRUPTS.heard = INTERRUPTS.heard, Heard
+run()
+"""
 # Another library that does so.
 IMPORTING = """
 import os, signal, sys
@@ -247,6 +262,13 @@ class Reading(Processes):
         _, said = run.communicate(timeout=30)
         self.assertRegex(said, rb"^octofix: stopped by Ctrl-C[^\n]*\n$")
         self.assertEqual((run.returncode, set(os.listdir())), (BY_CTRL_C, self.before))
+
+    def test_behind_all(self):
+        """What is done stays done."""
+        self.ends(self.start("-c", BEHIND, "--version"), "", 0)
+        self.ends(self.start("-c", BEHIND, "map", "--res", "0.1", "--quiet", "a.xyz", "-o", "a.bt"),
+                  "", 0)  # fmt: skip
+        self.assertEqual(content_of("a.bt"), content_of("wanted.bt"))
 
     def test_twice_at_the_end(self):
         """The second one ends it, without a word."""

@@ -84,8 +84,7 @@ def main(commands, words=None):
     """Runs a subcommand, and answers its exit status."""
     with INTERRUPTS.heard():
         try:
-            INTERRUPTS.waits_for = None
-            return _run(commands, words)
+            return _run_to_the_end(commands, words)
         except Abandoned:
             INTERRUPTS.waits_for = END
             say("ended at once: nothing is written")
@@ -103,6 +102,15 @@ def main(commands, words=None):
             said = "the Python library numpy is needed (in Debian python3-numpy)"
             say(said if is_numpy else " ".join(str(why).split()))
             return MISSING_LIBRARY
+
+
+def _run_to_the_end(commands, words):
+    """Runs a subcommand. Interrupts are raised within this alone, where main is there for them."""
+    try:
+        INTERRUPTS.waits_for = None
+        return _run(commands, words)
+    finally:
+        INTERRUPTS.waits_for = END
 
 
 def _run(commands, words):

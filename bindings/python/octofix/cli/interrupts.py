@@ -5,6 +5,7 @@ import os
 import signal
 import sys
 import threading
+import time
 from functools import partial
 
 from octofix.io.notes import say
@@ -77,7 +78,15 @@ class Interrupts:
             hook(lost)
             return
         number, self.first, self.is_raised = self.first, None, False
-        threading.Timer(AGAIN, os.kill, (os.getpid(), number)).start()
+        threading.Thread(target=self._send_until_heard, args=[number], daemon=True).start()
+
+    def _send_until_heard(self, number):
+        """Sends a signal, once more where it came between Python's last look for signals and a call
+        that waits; many that come before the next look are one."""
+        time.sleep(AGAIN)
+        while self.first is None and self.waits_for != END:
+            os.kill(os.getpid(), number)
+            time.sleep(AGAIN)
 
     def name(self):
         """What came first."""
