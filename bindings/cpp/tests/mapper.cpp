@@ -71,9 +71,9 @@ std::vector<look> looks(unsigned seed) {
     return all;
 }
 
-/// Scans that are refused: by the place of the sensor, a point, the quaternion or the log-odds, some
-/// by several, of which the first counts; and two of points so far away that they can't be turned
-/// beforehand, the second of which isn't refused.
+/// Scans that are refused: by the place of the sensor, a point, the quaternion or the log-odds,
+/// some by several, of which the first counts; and two of points so far away that they can't be
+/// turned beforehand, the second of which isn't refused.
 std::vector<look> refused_looks() {
     constexpr std::int64_t far = 10'000'000'000'000'000, less = far - 1;
     const octofix::pose turned = {metres(1, 0, 0), 3, -1, 2, 0}, none = {{}, 0, 0, 0, 0};

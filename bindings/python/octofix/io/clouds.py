@@ -124,8 +124,8 @@ def read(
 
 
 def points_in(message: Any) -> npt.NDArray[Any]:
-    """The points of a message of sensor_msgs/PointCloud2, (n, 3) in metres in the sensor's frame, as
-    it has them: some may not be finite.
+    """The points of a message of sensor_msgs/PointCloud2, (n, 3) in metres in the sensor's frame,
+    as it has them: some may not be finite.
 
     BadCloud where it lacks x, y or z, or its sizes don't fit.
     """

@@ -238,8 +238,8 @@ class View:
 
 @dataclass(eq=False)
 class _Waiting:
-    """A cloud, the greatest time of those that came after it, how many of its points are in its scan
-    and are cut, and what the scan answered, once it is done."""
+    """A cloud, the greatest time of those that came after it, how many of its points are in its
+    scan and are cut, and what the scan answered, once it is done."""
 
     time: float
     frame: str

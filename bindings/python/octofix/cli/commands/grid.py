@@ -79,8 +79,8 @@ def run(options):
 
 def write_grid(places, plane, place, is_forced=False):
     """Writes the picture of a plane of classes, its YAML, and where a third place is named its
-    frontier. place: the key of the lower left cell, the resolution, and where the map's origin lies, or
-    None."""
+    frontier. place: the key of the lower left cell, the resolution, and where the map's origin
+    lies, or None."""
     (name, _), (low, resolution, _) = places[0], place
     image = text_of(os.path.basename(name))
     greys = np.array([GREYS[it] for it in (UNKNOWN, FREE, OCCUPIED)], np.uint8)

@@ -141,8 +141,8 @@ def _check_end(content, at, order, elements):
 
 
 def _many_alike(content, at, order, element):
-    """How many records, the first and those right behind it, have lists as long as the first has: of
-    a mesh of triangles all."""
+    """How many records, the first and those right behind it, have lists as long as the first has:
+    of a mesh of triangles all."""
     size = _end_of_lists(content, at, order, element) - at
     many = min(element.many, (len(content) - at) // size)
     if not many:

@@ -45,8 +45,8 @@ def build(
 
     `words` are those of `octofix map` about clouds and poses, as ["--poses", "poses.txt",
     "--range", 30, *clouds]; `res`, `edge`, `max_groups` and `odds` those of `create`. `executor`
-    does the steps, or else this process. Where the same was begun before and ended, it goes on; where it was
-    done nothing is done.
+    does the steps, or else this process. Where the same was begun before and ended, it goes on;
+    where it was done nothing is done.
 
     BadTiles for what can't be used or isn't whole, and OSError as of a full disk: the tiles are as
     they were, none. ValueError for wrong words.

@@ -119,8 +119,9 @@ class Tiles:
     def info(self) -> dict[str, Any]:
         """What the tiles are, as JSON may have it: "resolution" (m), "side" (voxels), "edge" (m),
         "odds", "max_groups", "origin" (m, or None), "tiles", "bytes" on the disk, "low" and "high"
-        (m, the corners of the box of all tiles, None without any), "runs" (each with "run", "clouds", "scans", "points",
-        "skipped" and "gaps"), and "begun", the run that isn't ended, or None."""
+        (m, the corners of the box of all tiles, None without any), "runs" (each with "run",
+        "clouds", "scans", "points", "skipped" and "gaps"), and "begun", the run that isn't ended,
+        or None."""
         entries = self._entries
         low = high = None
         if entries:
