@@ -37,6 +37,8 @@
 //! stated twice: as the floor of `(2n + d) / (2d)` (`half_up`), and as the number that no other one
 //! is nearer than (`IsNearest`).
 //!
+//! [`Items`] keeps what it is given, in order: lists inside answers are of this type.
+//!
 //! `Memory` is the error of every call that fails only because memory ran out.
 //!
 //! It's the lowest crate: keys, poses, beams, the words of a command line, the script and the
@@ -45,6 +47,7 @@
 
 mod decimal;
 mod division;
+mod items;
 mod memory;
 mod metres;
 mod metres_writing;
@@ -54,6 +57,7 @@ mod sign;
 mod whole;
 
 pub use division::floor_div;
+pub use items::Items;
 pub use memory::Memory;
 pub use metres::{NumFault, metres_at, read_metres, split_metres};
 pub use metres_writing::{fraction_text, metres_text, push_metres};
