@@ -16,8 +16,8 @@
 //! - `read_metres` answers the nanometres of exactly the texts of an optional minus, one to seven
 //!   digits, and optionally a point and one to nine digits. To every other text it answers where
 //!   the text stops being a number, or which digit is one too many.
-//! - `split_metres` takes such a length off the front of a text, as far as its digits go, and
-//!   `metres_at` finds the one that begins at an index.
+//! - `metres_at` takes such a length that begins at an index of a text, as far as its digits go,
+//!   and answers the index of what follows it.
 //! - `read_whole` answers the number of exactly the texts of an optional minus and one to eighteen
 //!   digits, and `read_natural` that of exactly the texts of one to eighteen digits.
 //! - `metres_text` writes nanometres; below 10^16 in magnitude it is the shortest text that is read
@@ -59,7 +59,7 @@ mod whole;
 pub use division::floor_div;
 pub use items::Items;
 pub use memory::Memory;
-pub use metres::{NumFault, metres_at, read_metres, split_metres};
+pub use metres::{NumFault, metres_at, read_metres};
 pub use metres_writing::{fraction_text, metres_text, push_metres};
 pub use root::ceil_sqrt;
 pub use rounding::round_half_up;

@@ -52,23 +52,9 @@ pub fn read_metres(text: &[u8]) -> Result<i64, NumFault>
     Ok(with_sign(minus, nanometres))
 }
 
-/// Takes the length in decimal metres that a text begins with: its nanometres, and the rest of the
-/// text. Its digits go as far as they can, and a point belongs to it where a digit follows. `None`
-/// comes where the text begins with no digit after its sign, or with too many.
-pub fn split_metres(text: &[u8]) -> Option<(i64, &[u8])>
-    ensures exact { MatchOption result (metres_front text.now ≡ None)
-        (λ split. metres_front text.now ≡ Some (split.0, split.1.now)) }
-    ensures begins { IfSome result (λ split. BeginsWith text.now split.0 split.1.now) }
-    ensures reach { IfSome result (λ split. unsigned_abs split.0 < 10 ^ 16) }
-    ensures within { IfSome result (λ split. length split.1.now ≤ length text.now) }
-{
-    let (nm, end) = metres_at(text, 0)?;
-    let (_, rest) = text.split_at(end);
-    Some((nm, rest))
-}
-
-/// Does what [`split_metres`] does for the text from an index on, and answers the index of the
-/// rest.
+/// Takes the length in decimal metres that begins at an index of a text: its nanometres, and the
+/// index of what follows it. Its digits go as far as they can, and a point belongs to it where a
+/// digit follows. `None` comes where no digit stands after its sign, or too many do.
 #[inline(always)]
 pub fn metres_at(text: &[u8], from: usize) -> Option<(i64, usize)>
     requires { from ≤ length text.now }

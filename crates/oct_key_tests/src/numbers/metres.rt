@@ -1,6 +1,6 @@
 //! Lengths that are read, and where a text stops being one.
 use super::{expect_read, expect_text};
-use oct_num::{NumFault, split_metres};
+use oct_num::{NumFault, metres_at};
 use std::process::Abort;
 use std::test::Fail;
 
@@ -99,31 +99,22 @@ fn finds_the_first_digit_too_many(rt: HostRuntime) {
     expect_excesses(&rt, LONG_NUMBERS);
 }
 
-/// Texts, and the lengths that they begin with and what follows these, if any.
-const FRONTS: &[(&str, Option<(i64, &str)>)] = &[
-    ("1.5 2", Some((1_500_000_000, " 2"))),
-    ("-0.05", Some((-50_000_000, ""))),
-    ("7.", Some((7 * NM, "."))),
-    ("1.2.3", Some((1_200_000_000, ".3"))),
+/// Texts, and the lengths that they begin with and the indices of what follows these, if any.
+const FRONTS: &[(&str, Option<(i64, usize)>)] = &[
+    ("1.5 2", Some((1_500_000_000, 3))),
+    ("-0.05", Some((-50_000_000, 5))),
+    ("7.", Some((7 * NM, 1))),
+    ("1.2.3", Some((1_200_000_000, 3))),
     (".5", None),
     ("-", None),
     ("12345678", None),
     ("1.1234567890", None),
 ];
 
-/// Expects the length that a text begins with and what follows it, if any.
-fn expect_front(rt: &impl Abort, text: &str, want: Option<(i64, &str)>) {
-    let want = match want {
-        Some((nm, rest)) => Some((nm, rest.as_bytes())),
-        None => None,
-    };
-    assert_eq!(rt; split_metres(text.as_bytes()), want);
-}
-
 /// Expects the length that each text of a table begins with.
-fn expect_fronts(rt: &impl Abort, cases: &[(&str, Option<(i64, &str)>)]) {
+fn expect_fronts(rt: &impl Abort, cases: &[(&str, Option<(i64, usize)>)]) {
     for (text, want) in cases {
-        expect_front(rt, text, *want);
+        assert_eq!(rt; metres_at(text.as_bytes(), 0), *want);
     }
 }
 
