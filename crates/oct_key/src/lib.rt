@@ -55,7 +55,6 @@
 mod block;
 mod dilated;
 mod laws;
-mod lists;
 mod morton_code;
 mod point;
 mod resolution;
@@ -64,8 +63,7 @@ mod window;
 pub use block::{Block, child_index};
 pub use dilated::{Dilated, morton_of_axes};
 pub use laws::orders_are_whole;
-pub use lists::{KeyList, PointList};
 pub use morton_code::{child_of_code, from_morton, morton};
-pub use point::{Key, Point};
+pub use point::{Key, KeyList, Point, PointList};
 pub use resolution::{BadResolution, Res};
 pub use window::Window;

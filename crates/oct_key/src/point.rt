@@ -1,5 +1,7 @@
 //! Places in nanometres, and places in voxels.
 
+use oct_num::Items;
+
 /// A point, in nanometres.
 #[derive(Clone, Copy, Debug, PartialEq, Eq)]
 pub struct Point {
@@ -7,6 +9,9 @@ pub struct Point {
     pub y: i64,
     pub z: i64,
 }
+
+/// Points in order.
+pub type PointList = Items<Point>;
 
 /// A voxel, by its place on each axis. The voxels just above the origin have 32768 there.
 ///
@@ -17,3 +22,6 @@ pub struct Key {
     pub y: u16,
     pub z: u16,
 }
+
+/// Keys of voxels in order.
+pub type KeyList = Items<Key>;
