@@ -3,7 +3,10 @@ ghost use Rattle.std.specs.Prelude.{◌≡◌, IsTrue, false};
 ghost use Rattle.oct_io.specs.Failing.{fails_next, with_call, failed_of};
 ghost use Rattle.oct_io.specs.Told.{Rose};
 
-use crate::kept_list::KeptList;
+use oct_num::Items;
+
+/// The numbers of the calls that are to fail.
+pub type KeptList = Items<u64>;
 
 /// How many calls there were, and which are to fail.
 #[derive(Drop)]

@@ -4,8 +4,7 @@ ghost use Rattle.std.specs.Prelude.{IfOk, OnErr, IsErrOf, true};
 ghost use Rattle.oct_io.specs.Counts.{IsWriteCounted};
 ghost use Rattle.oct_io.specs.Failing.{fails_next, with_call, failed_of};
 
-use crate::calls::Calls;
-use crate::kept_list::KeptList;
+use crate::calls::{Calls, KeptList};
 use crate::memory_sink::MemorySink;
 use crate::sink::{Sink, SinkFault};
 use std::alloc::Global;

@@ -4,9 +4,8 @@ ghost use Rattle.std.specs.Prelude.{IfOk, OnErr, is_err};
 ghost use Rattle.oct_io.specs.Counts.{IsReadCounted};
 ghost use Rattle.oct_io.specs.Failing.{fails_next, with_call, failed_of};
 
-use crate::calls::Calls;
+use crate::calls::{Calls, KeptList};
 use crate::file_bytes::FileBytes;
-use crate::kept_list::KeptList;
 use crate::memory_source::MemorySource;
 use crate::source::{Failed, Source};
 

@@ -4,8 +4,7 @@ ghost use Rattle.std.specs.Prelude.{true};
 ghost use Rattle.oct_io.specs.Counts.{IsAskCounted};
 ghost use Rattle.oct_io.specs.Failing.{fails_next, with_call, failed_of};
 
-use crate::calls::Calls;
-use crate::kept_list::KeptList;
+use crate::calls::{Calls, KeptList};
 use crate::memory_store::MemoryStore;
 use crate::store::{Loaded, Store, StoreFault};
 use std::alloc::Global;
