@@ -13,3 +13,4 @@ pub mod InOrder
 pub mod Boxes
 pub mod BoxBlocks
 pub mod ChildCodes
+pub mod PlaceKeys

@@ -6,3 +6,4 @@ pub mod Morton
 pub mod Dilated
 pub mod Order
 pub mod Boxes
+pub mod PlaceKeys

@@ -38,17 +38,19 @@
 //!   first is beyond the second. [`Window::holds`] says which voxels lie in it,
 //!   [`Window::meets`] of which blocks some voxel does, and [`Window::covers`] of which each one.
 //! - [`PointList`] and [`KeyList`] keep what they are given, in order.
+//! - [`sorted_keys`] answers numbers that name each place of a list once (`AreKeys`), in the order
+//!   of the codes that the things there have.
 //!
 //! A block is a cube of 2^(16 - depth) voxels on each axis: depth 0 is the whole map, and each
 //! block is cut in half on each axis into the eight of the next depth, down to depth 16, where a
 //! block is a voxel.
 //!
-//! No call but `push` of a list allocates, and none touches anything but its arguments. The crates
-//! of a map stand on this one, and cite its definitions: `Voxel`, `Values` and `SameValues` for
-//! what a map means, `key_at` and `Holds` for where a point lies, `IsInBox`, `MeetsBox` and
-//! `LiesInBox` for the voxels and blocks of a box, `morton_of` for the order of voxels along the
-//! Z-order curve (Morton 1966), `key_cmp` and `voxels_in_order` for the one by x, y and z, and
-//! `block_of`, `child_of`, `HoldsVoxel` and `LiesIn` for the blocks.
+//! Only `push` of a list and `sorted_keys` allocate, and no call touches anything but its
+//! arguments. The crates of a map stand on this one, and cite its definitions: `Voxel`, `Values`
+//! and `SameValues` for what a map means, `key_at` and `Holds` for where a point lies, `IsInBox`,
+//! `MeetsBox` and `LiesInBox` for the voxels and blocks of a box, `morton_of` for the order of
+//! voxels along the Z-order curve (Morton 1966), `key_cmp` and `voxels_in_order` for the one by x,
+//! y and z, and `block_of`, `child_of`, `HoldsVoxel` and `LiesIn` for the blocks.
 
 #![tactic(auto)]
 
@@ -56,6 +58,7 @@ mod block;
 mod dilated;
 mod laws;
 mod morton_code;
+mod place_keys;
 mod point;
 mod resolution;
 mod window;
@@ -64,6 +67,7 @@ pub use block::{Block, child_index};
 pub use dilated::{Dilated, morton_of_axes};
 pub use laws::orders_are_whole;
 pub use morton_code::{child_of_code, from_morton, morton};
+pub use place_keys::sorted_keys;
 pub use point::{Key, KeyList, Point, PointList};
 pub use resolution::{BadResolution, Res};
 pub use window::Window;
