@@ -341,24 +341,18 @@ taken_added all ms ms' i d b l bricks up e (inr h) t =
     (subst (λ a. IsJoined h.last a h.joined) e h.both))
     h.is t
 
--- what the whole list gives
-pub taken_all : (f : Brick → ℕ) (bricks all ms : List Brick) (i : ℕ)
-    → ((b : Brick) → Contains bricks b → Contains all b)
-    → ((b : Brick) → Contains all b → Contains bricks b)
-    → length all ≤ i → HasSame f (take i all) ms → HasSame f bricks ms
-taken_all f bricks all ms i there back l same =
-    let whole : take i all ≡ all = take_all i all l in
-    λ c. (
-      λ h. (subst (λ xs. HasSame f xs ms) whole same c).0 (carried f bricks all c there h),
-      λ h. carried f all bricks c back ((subst (λ xs. HasSame f xs ms) whole same c).1 h),
-    )
-
--- a list of the same bricks in another order
+-- what the whole list gives, where it has the bricks of another one, in another order
 pub taken_permuted : (f : Brick → ℕ) (bricks all ms : List Brick) (i : ℕ)
     → IsPermutation bricks all → length all ≤ i → HasSame f (take i all) ms → HasSame f bricks ms
-taken_permuted f bricks all ms i moved =
-    taken_all f bricks all ms i (λ b. Contains-permutation bricks all b moved)
-    (λ b. Contains-permutation all bricks b (IsPermutation-sym bricks all moved))
+taken_permuted f bricks all ms i moved l same =
+    let whole : take i all ≡ all = take_all i all l in
+    let back : IsPermutation all bricks = IsPermutation-sym bricks all moved in
+    λ c. (
+      λ h. (subst (λ xs. HasSame f xs ms) whole same c).0
+          (carried f bricks all c (λ b. Contains-permutation bricks all b moved) h),
+      λ h. carried f all bricks c (λ b. Contains-permutation all bricks b back)
+          ((subst (λ xs. HasSame f xs ms) whole same c).1 h),
+    )
 
 -- of bricks in order, one has a code
 pub same_member : (bs : List Brick) (a b : Brick) → AreAscending bs → Contains bs a → Contains bs b

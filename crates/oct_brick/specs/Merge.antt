@@ -1,20 +1,13 @@
--- How bricks are put in order and joined: by keys, one after another.
-use Rattle.std.specs.Prelude.{◌≡◌, ◌≢◌, ◌⊎◌, ◌↔◌, ℕ, ◌-◌, ◌/◌, ◌%◌, ◌^◌, ◌<◌, List, [], ◌∷◌, ◌++◌}
-use Rattle.std.specs.Prelude.{length, All, Contains, slice_index_or, slice_set}
+-- How bricks are joined, one after another.
+use Rattle.std.specs.Prelude.{◌≡◌, ◌≢◌, ◌⊎◌, ◌↔◌, ℕ, ◌-◌, ◌<◌, List, [], ◌∷◌, ◌++◌}
+use Rattle.std.specs.Prelude.{length, slice_index_or, slice_set}
 use Rattle.oct_brick.specs.declared.brick.Brick.{Brick}
 use Rattle.oct_brick.specs.Masks.{HasCode}
 use Rattle.oct_brick.specs.Bricks.{IsBrick}
 
--- a number has the place of a brick in its lowest 22 bits, and that brick's code above them
-pub record IsKey (bricks : List Brick) (key : ℕ) : Type 0 where
-  pub within : key % 2 ^ 22 < length bricks
-  pub code : (d : Brick) → (slice_index_or bricks (key % 2 ^ 22) d).code ≡ key / 2 ^ 22
-
--- a key for each of the first n bricks
-pub record AreKeys (n : ℕ) (bricks : List Brick) (keys : List ℕ) : Type 0 where
-  pub count : length keys ≡ n
-  pub each : All (IsKey bricks) keys
-  pub all : (i : ℕ) → i < n → (key : ℕ) × Contains keys key × (key % 2 ^ 22 ≡ i)
+-- the code of a brick
+abbrev pub IsCodeOf : Brick → ℕ → Type 0
+IsCodeOf b code = b.code ≡ code
 
 -- a brick has the voxels of two others of its code
 pub record IsJoined (last b j : Brick) : Type 0 where

@@ -41,7 +41,6 @@
 #![tactic(auto)]
 
 mod brick;
-mod keys;
 mod merge;
 mod octets;
 

@@ -1,14 +1,19 @@
 //! Bricks in the order of their codes, those of one code joined.
-ghost use Rattle.std.specs.Prelude.{ℕ, ◌<◌, ◌≤◌, ◌↔◌, All, Contains, IfOk, OnErr, OnOk};
+ghost use Rattle.std.specs.Prelude.{ℕ, ◌^◌, ◌<◌, ◌≤◌, ◌↔◌, All, Contains, IfOk, OnErr, OnOk};
 ghost use Rattle.std.specs.Prelude.{length, vec_len};
 ghost use Rattle.std.specs.List.Sorted.{IsNonDecreasing};
 ghost use Rattle.oct_brick.specs.Bricks.{scanned_codes, hit_codes, IsBrick, AreAscending};
-ghost use Rattle.oct_brick.specs.Merge.{AreKeys, HasAdded};
+ghost use Rattle.oct_brick.specs.Merge.{HasAdded, IsCodeOf};
+ghost use Rattle.oct_key.specs.PlaceKeys.{AreKeys};
 
 use crate::brick::Brick;
-use crate::keys::{MOST_KEYED, sorted_keys};
+use oct_key::sorted_keys;
 use oct_num::Memory;
 use std::alloc::Global;
+
+/// How many bricks have keys at most. A key is the code of a brick times this, and the brick's
+/// place in the list.
+const MOST_KEYED: u64 = 1 << 22;
 
 /// The same voxels as bricks in the order of their codes, with one brick for each code. No bricks
 /// need no memory.
@@ -26,14 +31,14 @@ pub fn merge_bricks(alloc: Global, bricks: Vec<Brick>) -> Result<Vec<Brick>, Mem
     if bricks.len() as u64 > MOST_KEYED {
         return merge_many(alloc, bricks);
     }
-    let keys = sorted_keys(alloc, &bricks)?;
+    let keys = sorted_keys(alloc, &bricks, MOST_KEYED, |brick| brick.code)?;
     merge_by_keys(alloc, &bricks, &keys)
 }
 
 /// The same by the keys of all bricks, in order.
 fn merge_by_keys(alloc: Global, bricks: &[Brick], keys: &[u64]) -> Result<Vec<Brick>, Memory>
     requires bricks { All IsBrick bricks.now }
-    requires keys { AreKeys (length bricks.now) bricks.now keys.now }
+    requires keys { AreKeys IsCodeOf (2 ^ 22) bricks.now keys.now }
     requires order { IsNonDecreasing keys.now }
     ensures scanned { IfOk result (λ merged. (c : ℕ) →
         Contains (scanned_codes bricks.now) c ↔ Contains (scanned_codes merged.items) c) }
