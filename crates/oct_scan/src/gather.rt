@@ -5,9 +5,10 @@ ghost use Rattle.std.specs.Prelude.{false, OnOk, OnErr, IfSome, IsNone, Option, 
 ghost use Rattle.oct_key.specs.Boxes.{IsInBox};
 ghost use Rattle.oct_key.specs.Voxel.{Voxel, IsInMap, key_at};
 ghost use Rattle.oct_key.specs.Morton.{morton_of};
+ghost use Rattle.oct_key.specs.PlaceKeys.{AreKeys};
 ghost use Rattle.oct_brick.specs.Bricks.{scanned_codes, hit_codes, IsBrick};
 ghost use Rattle.oct_scan.specs.Beam.{bare, bare_beam, IsPlaced};
-ghost use Rattle.oct_scan.specs.Order.{AreKeys};
+ghost use Rattle.oct_scan.specs.Order.{EndsIn};
 ghost use Rattle.oct_scan.specs.Gathered.{HoldAllGathered, IsBeamHeld, IsHeld, IsCurrent};
 ghost use Rattle.oct_ray.specs.Met.{met_by};
 ghost use Rattle.oct_scan.specs.Entry.{HasComeIn, IsWay, StaysOut};
@@ -17,14 +18,20 @@ ghost use Rattle.oct_scan.specs.Piled.{AreFew};
 use crate::beam::PlacedBeam;
 use crate::code_box::CodeBox;
 use crate::entry::{is_passed_by, walk_to_box};
-use crate::order::{LEAST_KEYED, MOST_KEYED, sorted_keys};
 use crate::sensor_view::SensorView;
 use crate::table::BrickTable;
 use oct_brick::Brick;
-use oct_key::{Key, Window, from_morton, morton};
+use oct_key::{Key, Window, from_morton, morton, sorted_keys};
 use oct_num::Memory;
 use oct_ray::{BeamWalk, Walk};
 use std::alloc::Global;
+
+/// How many beams have keys at most, which take four megabytes then. A key is the code of the brick
+/// where a beam ends times this, and the beam's place in the list.
+const MOST_KEYED: u64 = 1 << 19;
+
+/// How many beams have keys at least. Fewer of them pass few bricks that others pass too.
+const LEAST_KEYED: u64 = 4096;
 
 /// What beams from one origin change, brick by brick, in the box where one stands. They all lie in
 /// the map.
@@ -64,7 +71,7 @@ fn add_beams(
     if count < LEAST_KEYED || MOST_KEYED < count {
         return add_in_order(bricks, view, beams);
     }
-    let keys = sorted_keys(alloc, beams)?;
+    let keys = sorted_keys(alloc, beams, MOST_KEYED, |beam| morton(beam.voxel) >> 6)?;
     add_by_keys(bricks, view, beams, &keys)
 }
 
@@ -76,7 +83,7 @@ fn add_by_keys(
     keys: &[u64],
 ) -> Result<(), Memory>
     requires placed { All (IsPlaced view.now.res) beams.now }
-    requires keys { AreKeys beams.now keys.now }
+    requires keys { AreKeys EndsIn (2 ^ 19) beams.now keys.now }
     requires none { bricks.old ≡ [] }
     ensures gathered { OnOk result (HoldAllGathered view.now.res view.now.window view.now.origin
         (bare beams.now) bricks.new) }

@@ -60,7 +60,6 @@ mod gather;
 mod judge;
 mod laws;
 mod need;
-mod order;
 mod pile;
 mod scan;
 mod sensor_view;
