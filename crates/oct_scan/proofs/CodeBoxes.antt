@@ -66,7 +66,8 @@ same_gathered a b =
 -- and that of a number between two
 within : (l b h low high code : ℕ) → l ≡ dilated (gathered 16 low) → b ≡ dilated (gathered 16 code)
     → h ≡ dilated (gathered 16 high)
-    → (nat_le l b && nat_le b h) ≡ is_between (gathered 16 low) (gathered 16 high) (gathered 16 code)
+    → (nat_le l b && nat_le b h)
+    ≡ is_between (gathered 16 low) (gathered 16 high) (gathered 16 code)
 within l b h low high code el eb eh =
     ap (λ n. nat_le n b && nat_le b h) el
     ∙ ap (λ n. nat_le (dilated (gathered 16 low)) n && nat_le n h) eb

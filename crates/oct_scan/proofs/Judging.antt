@@ -84,7 +84,8 @@ bound_more edge o bs i d k bound more next most range lt key_o placed counted ca
     )
 
 -- before the first beam nothing is met
-pub bound_none : (edge : ℕ) (o : Point) (bs : List PlacedBeam) → MeetAtMost edge o (take 0 (bare bs)) 0
+pub bound_none : (edge : ℕ) (o : Point) (bs : List PlacedBeam)
+    → MeetAtMost edge o (take 0 (bare bs)) 0
 bound_none edge o bs = (0, refl, omega arith)
 
 -- and after the last one all are counted

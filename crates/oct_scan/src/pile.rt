@@ -60,9 +60,8 @@ impl BrickPile {
         }
     }
 
-    /// Adds the voxels of a brick.
-    // Its numbers go on one by one, since a processor waits where two were written as two and are
-    // read as one.
+    /// Adds the voxels of a brick. Its numbers go on one by one, since a processor waits where two
+    /// were written as two and are read as one.
     #[inline(always)]
     pub fn push(&mut self, brick: Brick) -> Result<(), Memory>
         requires bricks { All IsBrick self.old }

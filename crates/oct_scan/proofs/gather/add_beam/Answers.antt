@@ -27,11 +27,12 @@ push_kept-requires-clause-way c =
     record {
       ends = ends_at way c.args.beam.voxel (new.last ∙ last) new.walk.once;
       between = λ k there.
-          met_spanned c.args.view.now.res c.args.view.now.origin c.args.beam.end c.args.view.now.start
-          c.args.beam.voxel k (omega (arith, range.0)) first last
-          (All-contains (Meets c.args.view.now.res c.args.view.now.origin c.args.beam.end) way k new.walk.met there);
-      onward = walk_onward c.args.view.now.res c.args.view.now.origin c.args.beam.end c.args.beam.voxel way
-          (omega (arith, range.0)) last new.walk;
+          met_spanned c.args.view.now.res c.args.view.now.origin c.args.beam.end
+          c.args.view.now.start c.args.beam.voxel k (omega (arith, range.0)) first last
+          (All-contains (Meets c.args.view.now.res c.args.view.now.origin c.args.beam.end) way k
+          new.walk.met there);
+      onward = walk_onward c.args.view.now.res c.args.view.now.origin c.args.beam.end
+          c.args.beam.voxel way (omega (arith, range.0)) last new.walk;
     }
 
 pub returns-clause-added : goal.returns-clause-added
@@ -45,13 +46,14 @@ returns-clause-added c =
     let new =
     met_by_new c.args.view.now.res c.args.view.now.origin c.args.beam.end range some inside in
     let on_map : All IsInMap met =
-    walk_on_map c.args.view.now.res c.args.view.now.origin c.args.beam.end c.args.view.now.start c.args.beam.voxel
-    met (omega (arith, range.0)) first key new.walk in
+    walk_on_map c.args.view.now.res c.args.view.now.origin c.args.beam.end c.args.view.now.start
+    c.args.beam.voxel met (omega (arith, range.0)) first key new.walk in
     let way = subst (λ e. AreAdded c.args.bricks.now c.push_kept.new.bricks
     (kept c.args.view.now.window met) e) (sym c.morton.ensures.exact)
     c.in_ok-push_kept.ensures.scanned in (
       length met,
-      beam_held c.args.view.now.res c.args.view.now.window c.args.view.now.origin (bare_beam c.args.beam) (length met)
+      beam_held c.args.view.now.res c.args.view.now.window c.args.view.now.origin
+          (bare_beam c.args.beam) (length met)
           c.morton.result c.is_mute.result c.args.bricks.now c.push_kept.new.bricks
           c.push_end.new.bricks met c.args.beam.voxel new.walk new.last key on_map refl
           c.morton.ensures.exact c.is_mute.ensures way c.in_ok-push_kept.ensures.hits

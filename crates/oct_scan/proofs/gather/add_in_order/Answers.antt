@@ -13,8 +13,8 @@ pub loop-beam-preserved : goal.loop-beam-preserved
 loop-beam-preserved c =
     let (met, added) = c.in_ok-add_beam.ensures.added in
     record {
-      held = all_placed c.args.view.now.res c.args.view.now.window c.args.view.now.origin c.args.beams.now
-          c.loop-beam.beam-index _ met c.loop-beam.bricks c.add_beam.new.bricks
+      held = all_placed c.args.view.now.res c.args.view.now.window c.args.view.now.origin
+          c.args.beams.now c.loop-beam.beam-index _ met c.loop-beam.bricks c.add_beam.new.bricks
           c.loop-beam-test.true c.loop-beam.invariant.held added;
       bricks = c.in_ok-add_beam.ensures.bricks;
     }

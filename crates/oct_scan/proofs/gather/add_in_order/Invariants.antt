@@ -6,6 +6,7 @@ use Rattle.oct_scan.proofs.gather.add_in_order.Given as goal
 
 abbrev pub invariant-loop-beam : goal.invariant-loop-beam
 invariant-loop-beam l = record {
-  held : HoldAllGathered l.view.res l.view.window l.view.origin (take l.beam-index (bare l.beams)) l.bricks;
+  held : HoldAllGathered l.view.res l.view.window l.view.origin
+      (take l.beam-index (bare l.beams)) l.bricks;
   bricks : All IsBrick l.bricks;
 }

@@ -4,7 +4,8 @@ use Rattle.oct_key.specs.Morton.{morton_of}
 use Rattle.oct_key.proofs.Interleavings.{morton_injective}
 use Rattle.oct_scan.specs.Gathered.{EndsAt}
 use Rattle.oct_scan.proofs.Ends.{end_later, end_left}
-use Rattle.oct_scan.proofs.Holding.{codes_in, kept_scanned, way_none, way_passed, way_marked, way_all}
+use Rattle.oct_scan.proofs.Holding.{codes_in, kept_scanned, way_none, way_passed, way_marked}
+use Rattle.oct_scan.proofs.Holding.{way_all}
 use Rattle.oct_scan.proofs.Tabled.{empty, held_more}
 use Rattle.oct_scan.proofs.gather.mark_steps.Goals as goal
 

@@ -18,15 +18,17 @@ push_way-requires-clause-ends c =
 
 pub returns-in-None : goal.returns-in-None
 returns-in-None c =
-    added_as c.push_way.result None c.args.view.now.window c.morton.result (morton_of c.args.beam.voxel) _ _
-    c.args.bricks.now c.push_way.new.bricks
-    (ap (λ w. kept w (met_by c.args.view.now.res c.args.view.now.origin c.args.beam.end)) c.in-None.is
+    added_as c.push_way.result None c.args.view.now.window c.morton.result
+    (morton_of c.args.beam.voxel) _ _ c.args.bricks.now c.push_way.new.bricks
+    (ap (λ w. kept w (met_by c.args.view.now.res c.args.view.now.origin c.args.beam.end))
+    c.in-None.is
     ∙ sym c.walk.ensures)
     c.morton.ensures.exact c.push_way.ensures
 
 pub returns-in-Some : goal.returns-in-Some
 returns-in-Some c =
-    added_as c.push_part.result (Some c.in-Some.window) c.args.view.now.window (morton_of c.args.beam.voxel)
+    added_as c.push_part.result (Some c.in-Some.window) c.args.view.now.window
+    (morton_of c.args.beam.voxel)
     (morton_of c.args.beam.voxel) _ _ c.args.bricks.now c.push_part.new.bricks
-    (ap (λ w. kept w (met_by c.args.view.now.res c.args.view.now.origin c.args.beam.end)) c.in-Some.is) refl
-    c.push_part.ensures
+    (ap (λ w. kept w (met_by c.args.view.now.res c.args.view.now.origin c.args.beam.end))
+    c.in-Some.is) refl c.push_part.ensures

@@ -19,11 +19,13 @@ push_way-requires-clause-ends c =
 
 pub returns-then-holds-2 : goal.returns-then-holds-2
 returns-then-holds-2 c =
-    let all = kept_all c.args.window.now (met_by c.args.view.now.res c.args.view.now.origin c.args.beam.end)
+    let all = kept_all c.args.window.now (met_by c.args.view.now.res c.args.view.now.origin
+    c.args.beam.end)
     (λ k there. spanned_inside c.args.window.now c.args.view.now.start c.args.beam.voxel k
     (c.holds.ensures.means.0 c.if-holds.true) (c.holds-then-holds.ensures.means.0 c.if-holds-2.true)
     (c.requires.way.between k there)) in
-    added_as c.push_way.result None (Some c.args.window.now) c.morton.result (morton_of c.args.beam.voxel)
+    added_as c.push_way.result None (Some c.args.window.now) c.morton.result
+    (morton_of c.args.beam.voxel)
     _ _ c.args.bricks.now c.push_way.new.bricks (all ∙ sym c.walk.ensures)
     c.morton.ensures.exact c.push_way.ensures
 
@@ -42,5 +44,5 @@ returns-then-is_passed_by c =
 pub returns-else-is_passed_by : goal.returns-else-is_passed_by
 returns-else-is_passed_by c =
     added_as c.push_inside.result (Some c.args.window.now) (Some c.args.window.now)
-    (morton_of c.args.beam.voxel) (morton_of c.args.beam.voxel) _ _ c.args.bricks.now c.push_inside.new.bricks
-    (sym c.walk_to_box.ensures.same) refl c.push_inside.ensures
+    (morton_of c.args.beam.voxel) (morton_of c.args.beam.voxel) _ _ c.args.bricks.now
+    c.push_inside.new.bricks (sym c.walk_to_box.ensures.same) refl c.push_inside.ensures

@@ -26,29 +26,34 @@ pub returns-then-known-brick-clause-scanned : goal.returns-then-known-brick-clau
 returns-then-known-brick-clause-scanned c =
     let l : c.find-at.result < length c.self.inside.bricks.items = search rules in
     joined_from (λ b. b.scanned) c.args.self.now c.self.inside.bricks.items c.find-at.result
-    c.index-known.result.now (record { code = c.args.code; scanned = c.args.scanned; hits = c.args.hits }) c.joined.result c.self.view_is l
-    c.index-known.ensures c.joined.ensures.scanned
+    c.index-known.result.now
+    (record { code = c.args.code; scanned = c.args.scanned; hits = c.args.hits })
+    c.joined.result c.self.view_is l c.index-known.ensures c.joined.ensures.scanned
 
 pub returns-then-known-brick-clause-hits : goal.returns-then-known-brick-clause-hits
 returns-then-known-brick-clause-hits c =
     let l : c.find-at.result < length c.self.inside.bricks.items = search rules in
     joined_from (λ b. b.hits) c.args.self.now c.self.inside.bricks.items c.find-at.result
-    c.index-known.result.now (record { code = c.args.code; scanned = c.args.scanned; hits = c.args.hits }) c.joined.result c.self.view_is l
-    c.index-known.ensures c.joined.ensures.hits
+    c.index-known.result.now
+    (record { code = c.args.code; scanned = c.args.scanned; hits = c.args.hits })
+    c.joined.result c.self.view_is l c.index-known.ensures c.joined.ensures.hits
 
 pub returns-clause-scanned : goal.returns-clause-scanned
 returns-clause-scanned c =
     merged_more (λ b. b.scanned) c.args.self.now c.self.inside.bricks.items
-    c.make_room.new.bricks.items c.push.new.self.items (record { code = c.args.code; scanned = c.args.scanned; hits = c.args.hits }) c.self.view_is
+    c.make_room.new.bricks.items c.push.new.self.items
+    (record { code = c.args.code; scanned = c.args.scanned; hits = c.args.hits }) c.self.view_is
     c.in_ok-make_room.ensures.scanned c.in_ok-push.ensures.items
 
 pub returns-clause-hits : goal.returns-clause-hits
 returns-clause-hits c =
     merged_more (λ b. b.hits) c.args.self.now c.self.inside.bricks.items
-    c.make_room.new.bricks.items c.push.new.self.items (record { code = c.args.code; scanned = c.args.scanned; hits = c.args.hits }) c.self.view_is
+    c.make_room.new.bricks.items c.push.new.self.items
+    (record { code = c.args.code; scanned = c.args.scanned; hits = c.args.hits }) c.self.view_is
     c.in_ok-make_room.ensures.hits c.in_ok-push.ensures.items
 
 pub returns-clause-bricks : goal.returns-clause-bricks
 returns-clause-bricks c =
     pushed_bricks c.make_room.new.bricks.items c.make_room.new.bricks.items c.push.new.self.items
-    (record { code = c.args.code; scanned = c.args.scanned; hits = c.args.hits }) refl c.in_ok-push.ensures.items c.in_ok-make_room.ensures.bricks c.requires.brick
+    (record { code = c.args.code; scanned = c.args.scanned; hits = c.args.hits }) refl
+    c.in_ok-push.ensures.items c.in_ok-make_room.ensures.bricks c.requires.brick
