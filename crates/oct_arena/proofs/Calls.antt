@@ -27,7 +27,8 @@ module _ (m : Groups) (h k n : ℕ) (es : Groups) (w : IsThreaded m h k n) (view
     -- as many are vacant as were given back or never taken
     pub counts : length m - n + k ≡ spare es
     counts =
-        let e : spare es + n ≡ length m + k = sym (ap (λ gs. spare gs + n) view) ∙ spare_is m h k n w in
+        let e : spare es + n ≡ length m + k = sym (ap (λ gs. spare gs + n) view)
+        ∙ spare_is m h k n w in
         let l = w.within in omega arith
 
     -- as many groups as entries that aren't vacant

@@ -32,8 +32,8 @@
 //! - [`NodeArena::copy`] answers another arena with the same entries, groups and vacant ones alike.
 //! - [`NodeArena::live`] and [`NodeArena::spare`] are the numbers of groups and of vacant entries.
 //!
-//! Beside `copy`, `reserve` is the only call that asks for memory. So a caller that reserves first what an edit
-//! may need can't fail on the way and leave half of it done.
+//! Beside `copy`, `reserve` is the only call that asks for memory. So a caller that reserves first
+//! what an edit may need can't fail on the way and leave half of it done.
 //!
 //! Groups lie in chunks of 1,024, which never move. A node takes eight bytes, a home too, and a
 //! group 72. The memory of an entry is first written when it is first taken. The entries that were
@@ -42,9 +42,9 @@
 //! was ever taken has a group in its memory, and no other one. `take` takes the first entry of the
 //! list, or, where that is empty, the first one that was never taken; `give` puts one in front. So
 //! new entries are taken in the order of their ids, and groups that are made one after another lie
-//! side by side. All calls but `copy` and `reserve` take a few steps, however many groups there are.
-//! A copy is one pass over the entries that were ever taken, and reads no other memory. An arena
-//! that is dropped gives all memory back.
+//! side by side. All calls but `copy` and `reserve` take a few steps, however many groups there
+//! are. A copy is one pass over the entries that were ever taken, and reads no other memory. An
+//! arena that is dropped gives all memory back.
 //!
 //! The tree stands on this crate, and cites `Groups`, `entry`, `IsLive`, `node_at` and `home_at`.
 //! `IsArena` is what each list of an arena has: at most 2^31 + 1,023 entries, and eight nodes in

@@ -20,13 +20,13 @@ fill-requires c =
 pub invariant_of-self : goal.invariant_of-self
 invariant_of-self c = (
   written_full c.self.inside.chunks.items c.args.self.now c.args.i c.self.invariant.0 c.self.view_is
-      (live_within c.args.self.now c.args.i c.requires) c.index_mut-chunk.result.now c.index_mut-chunk.ensures.value c.fill.new.self _
-      c.fill.ensures,
+      (live_within c.args.self.now c.args.i c.requires) c.index_mut-chunk.result.now
+      c.index_mut-chunk.ensures.value c.fill.new.self _ c.fill.ensures,
   rw length-set c.self.invariant.1,
 )
 
 pub returns : goal.returns
 returns c =
     written c.self.inside.chunks.items c.args.self.now c.args.i c.self.invariant.0 c.self.view_is
-    (live_within c.args.self.now c.args.i c.requires) c.index_mut-chunk.result.now c.index_mut-chunk.ensures.value c.fill.new.self _
-    c.fill.ensures
+    (live_within c.args.self.now c.args.i c.requires) c.index_mut-chunk.result.now
+    c.index_mut-chunk.ensures.value c.fill.new.self _ c.fill.ensures

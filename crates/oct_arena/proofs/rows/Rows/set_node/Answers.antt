@@ -17,14 +17,14 @@ index_mut-chunk-requires c =
 pub set_node-requires-clause-live : goal.set_node-requires-clause-live
 set_node-requires-clause-live c =
     live_place c.self.inside.chunks.items c.args.self.now c.args.i c.self.invariant.0
-    c.self.view_is (live_within c.args.self.now c.args.i c.requires.live) c.index_mut-chunk.result.now
-    c.index_mut-chunk.ensures.value c.requires.live
+    c.self.view_is (live_within c.args.self.now c.args.i c.requires.live)
+    c.index_mut-chunk.result.now c.index_mut-chunk.ensures.value c.requires.live
 
 pub invariant_of-self : goal.invariant_of-self
 invariant_of-self c = (
   written_full c.self.inside.chunks.items c.args.self.now c.args.i c.self.invariant.0 c.self.view_is
-      (live_within c.args.self.now c.args.i c.requires.live) c.index_mut-chunk.result.now c.index_mut-chunk.ensures.value
-      c.set_node.new.self _ c.set_node.ensures,
+      (live_within c.args.self.now c.args.i c.requires.live) c.index_mut-chunk.result.now
+      c.index_mut-chunk.ensures.value c.set_node.new.self _ c.set_node.ensures,
   rw length-set c.self.invariant.1,
 )
 
@@ -32,7 +32,9 @@ pub returns : goal.returns
 returns c =
     let k = c.index_mut-chunk.result.now in
     written c.self.inside.chunks.items c.args.self.now c.args.i c.self.invariant.0 c.self.view_is
-    (live_within c.args.self.now c.args.i c.requires.live) k c.index_mut-chunk.ensures.value c.set_node.new.self _ c.set_node.ensures
+    (live_within c.args.self.now c.args.i c.requires.live) k c.index_mut-chunk.ensures.value
+    c.set_node.new.self _ c.set_node.ensures
     ∙ ap (λ e. slice_set c.args.self.now c.args.i (with_node e c.args.j c.args.node))
     (read_place c.self.inside.chunks.items c.args.self.now c.args.i c.self.invariant.0
-    c.self.view_is (live_within c.args.self.now c.args.i c.requires.live) k c.index_mut-chunk.ensures.value)
+    c.self.view_is (live_within c.args.self.now c.args.i c.requires.live) k
+    c.index_mut-chunk.ensures.value)

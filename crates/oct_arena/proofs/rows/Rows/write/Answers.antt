@@ -24,13 +24,13 @@ write-requires-clause-empty c =
 pub invariant_of-self : goal.invariant_of-self
 invariant_of-self c = (
   written_full c.self.inside.chunks.items c.args.self.now c.args.i c.self.invariant.0 c.self.view_is
-      c.requires.within c.index_mut-chunk.result.now c.index_mut-chunk.ensures.value c.write.new.self _
-      c.write.ensures,
+      c.requires.within c.index_mut-chunk.result.now c.index_mut-chunk.ensures.value
+      c.write.new.self _ c.write.ensures,
   rw length-set c.self.invariant.1,
 )
 
 pub returns : goal.returns
 returns c =
     written c.self.inside.chunks.items c.args.self.now c.args.i c.self.invariant.0 c.self.view_is
-    c.requires.within c.index_mut-chunk.result.now c.index_mut-chunk.ensures.value c.write.new.self _
-    c.write.ensures
+    c.requires.within c.index_mut-chunk.result.now c.index_mut-chunk.ensures.value
+    c.write.new.self _ c.write.ensures
