@@ -11,8 +11,7 @@ ghost use Rattle.oct_change.specs.declared.changes.Note.{Note};
 ghost use Rattle.oct_change.specs.Notes.{AreInMap, first_noted, marked_by, note_of};
 ghost use Rattle.oct_change.specs.Changes.{AreChanges, change_of, changes_between};
 
-use crate::kind::{Change, kind_of_change};
-use crate::list::ChangeList;
+use crate::kind::{Change, ChangeList, kind_of_change};
 use oct_key::Key;
 use oct_num::Memory;
 use oct_odds::Class;

@@ -3,6 +3,7 @@ ghost use Rattle.std.specs.Prelude.{◌≡◌};
 ghost use Rattle.oct_change.specs.Changes.{kind_between};
 
 use oct_key::Key;
+use oct_num::Items;
 use oct_odds::Class;
 
 /// How a voxel changed.
@@ -26,6 +27,9 @@ pub struct Change {
     /// How its class has changed.
     pub kind: Kind,
 }
+
+/// Changes of voxels in order.
+pub type ChangeList = Items<Change>;
 
 /// How a voxel changes from one class to another, if it does.
 pub(crate) fn kind_of_change(before: Class, after: Class) -> Option<Kind>

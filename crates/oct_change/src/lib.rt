@@ -45,10 +45,8 @@
 mod changes;
 mod kind;
 mod laws;
-mod list;
 mod voxels;
 
 pub use changes::{Changes, Note};
-pub use kind::{Change, Kind};
+pub use kind::{Change, ChangeList, Kind};
 pub use laws::changes_are_right;
-pub use list::ChangeList;
