@@ -41,7 +41,8 @@ use Rattle.oct_map.specs.declared.fault.MapFault.TheVariants.{Full, WideWhileTra
 use Rattle.oct_map.specs.Ground.{Ground}
 use Rattle.oct_map.specs.Map.{Map, IsMap, values_of}
 use Rattle.oct_map.specs.Answers.{IsAnswerOrMemory, most_noted, room_answer}
-use Rattle.oct_map.specs.Edits.{IsReadied, IsMapEdited, IsMapRefused, KeepsAllElse, LacksEntries, ReservesFew}
+use Rattle.oct_map.specs.Edits.{IsReadied, IsMapEdited, IsMapRefused, KeepsAllElse, LacksEntries}
+use Rattle.oct_map.specs.Edits.{ReservesFew}
 use Rattle.oct_map.specs.Edits.{fitted_groups, entries_of}
 use Rattle.oct_map.specs.Marks.{classes_in, KeepsMark, SameMark}
 use Rattle.oct_map.specs.Notes.{HasMarked, HasRoomForNotes, IsNotedBehind, IsSameNoted, LacksNotes}
@@ -154,7 +155,8 @@ pruned_lacks m p w y is pruned to second lacks =
 
 -- and makes as many more
 pub pruned_reserved : (m p n : Map) (w y : Values) → IsMap p → IsPruned p.tree
-    → IsPrunedAtMost m p → SameValues w y → ReservesFew p n (more_groups (values_of p) y) → IsMergeReserved m n w
+    → IsPrunedAtMost m p → SameValues w y → ReservesFew p n (more_groups (values_of p) y)
+    → IsMergeReserved m n w
 pruned_reserved m p n w y is pruned to second h =
     let all = same_total m.tree.groups p.tree.groups to.shrunk.length in
     let fitted = pruned_fitted p (more_groups (values_of p) y) is pruned in
@@ -306,7 +308,8 @@ one_box These a b e f =
     ap (λ k. record { lo = k; hi = a.hi }) lo ∙ ap (λ k. record { lo = b.lo; hi = k }) hi
 
 -- the least box around no voxel would lie in a box that holds none
-no_box : (These : Voxel → Type 0) (a : Window) → ((k : Voxel) → These k → ⊥) → IsLeastBox These a → ⊥
+no_box : (These : Voxel → Type 0) (a : Window) → ((k : Voxel) → These k → ⊥)
+    → IsLeastBox These a → ⊥
 no_box These a none e =
     let one : Voxel = record { x = 1; y = 1; z = 1 } in
     let zero : Voxel = record { x = 0; y = 0; z = 0 } in

@@ -5,7 +5,8 @@ use Rattle.oct_map.specs.Map.{Map}
 use Rattle.oct_map.specs.Merges.{IsKnownBox, note_answer}
 use Rattle.oct_map.proofs.Merges.{noted_fits, noted_nothing, noted_wide, one_extent}
 use Rattle.oct_map.proofs.map.OccMap.box_to_note.Goals.{After-bounds-window}
-use Rattle.oct_map.proofs.map.OccMap.box_to_note.Goals.{in-Some+else-count-gt-MOST_NOTED, in_default}
+use Rattle.oct_map.proofs.map.OccMap.box_to_note.Goals.{in-Some+else-count-gt-MOST_NOTED}
+use Rattle.oct_map.proofs.map.OccMap.box_to_note.Goals.{in_default}
 use Rattle.oct_map.proofs.map.OccMap.box_to_note.Goals as goal
 
 -- what was found is the least box
@@ -16,7 +17,8 @@ found c extent is =
     (subst (λ (m : Map). IsKnownBox m c.bounds-window.result) c.other.view_is
     c.bounds-window.ensures.exact) is
 
-pub returns-then-count-gt-MOST_NOTED-clause-answer : goal.returns-then-count-gt-MOST_NOTED-clause-answer
+pub returns-then-count-gt-MOST_NOTED-clause-answer :
+    goal.returns-then-count-gt-MOST_NOTED-clause-answer
 returns-then-count-gt-MOST_NOTED-clause-answer c extent is =
     let b = (goal.at.returns-then-count-gt-MOST_NOTED-clause-answer c).After-bounds-window in
     noted_wide (is_some c.args.self.now.mark) extent c.in-Some.window c.volume-count.result

@@ -96,7 +96,8 @@ returns-clause-answered c =
     let p = (goal.at.returns-clause-answered c).After-prune-2 in
     record {
       answer = λ extent is.
-          subst (λ noted. IsAnswerOrMemory (then_answer noted (union_answer c.args.self.now.max_groups
+          subst (λ noted. IsAnswerOrMemory (then_answer noted
+          (union_answer c.args.self.now.max_groups
           (values_of c.args.self.now) (values_of c.args.other.now))) c.merge_pruned.result)
           (c.in_ok-noted.ensures.answer extent is)
           (subst (λ answer. IsAnswerOrMemory answer c.merge_pruned.result)
@@ -105,11 +106,12 @@ returns-clause-answered c =
           let (room, lacks) = c.merge_pruned.ensures.memory e in (
             subst IsOk (sym (same p)) room,
             elim lacks [
-              | inl few ↦ inl (pruned_lacks c.args.self.now c.prune.new.self (values_of c.args.other.now)
+              | inl few ↦ inl (pruned_lacks c.args.self.now c.prune.new.self
+                  (values_of c.args.other.now)
                   (values_of c.prune-2.new.self) c.prune.ensures.map c.prune.ensures.pruned (mine p)
                   c.prune-2.ensures.values few)
-              | inr notes ↦ inr (λ extent is. lacks_given c.args.self.now.mark c.in_ok-noted.noted extent
-                  (c.in_ok-noted.ensures.answer extent is)
+              | inr notes ↦ inr (λ extent is. lacks_given c.args.self.now.mark c.in_ok-noted.noted
+                  extent (c.in_ok-noted.ensures.answer extent is)
                   (subst (λ mark. LacksNotes mark (given_volume c.in_ok-noted.noted))
                   c.prune.ensures.notes notes))
             ],

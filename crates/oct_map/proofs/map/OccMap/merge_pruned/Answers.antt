@@ -30,7 +30,8 @@ need c = more_groups (values_of c.args.self.now) (values_of c.args.other.now)
 
 counted : (c : After-from) → c.from.result ≡ need c
 counted c =
-    let mine : c.self.inside.tree ≡ c.args.self.now.tree = ap (λ (m : Map). m.tree) c.self.view_is in
+    let mine : c.self.inside.tree ≡ c.args.self.now.tree =
+    ap (λ (m : Map). m.tree) c.self.view_is in
     let theirs : c.other.inside.tree ≡ c.args.other.now.tree =
     ap (λ (m : Map). m.tree) c.other.view_is in
     let is : IsMap c.args.self.now = subst IsMap c.self.view_is c.self.invariant in
@@ -132,7 +133,8 @@ events c = merge_events c.args.rule (values_of c.args.self.now) (values_of c.arg
 
 same : (c : After-note_window) → SameEvents (given c) (events c)
 same c k v =
-    ap (λ a. merge_event c.args.rule a (value_at c.other.inside.tree k)) (sym ((ready c).values k v))
+    ap (λ a. merge_event c.args.rule a (value_at c.other.inside.tree k))
+    (sym ((ready c).values k v))
     ∙ ap (λ (m : Map). merge_event c.args.rule (values_of c.args.self.now k) (values_of m k))
     c.other.view_is
 
