@@ -1,8 +1,8 @@
 -- What a line does, and where desk and session then stand.
-use Rattle.std.proofs.Common.{◌≡◌, ℕ, ◌+◌, ◌≤◌, List, [], ◌++◌, ◌||◌, ◌⊎◌, Bool, true, false}
+use Rattle.std.proofs.Common.{◌≡◌, ℕ, ◌+◌, ◌≤◌, List, ◌++◌, ◌||◌, Bool, true, false}
 use Rattle.std.proofs.Common.{cond, is_some, IsSome, IsErr, Some, None, refl, Option, Result, Ok}
 use Rattle.std.proofs.Common.{Err}
-use Rattle.std.proofs.Common.{IsErrAnd, OnOk, OnErr, inl, inr, sym, ap, subst, ◌∙◌, arith}
+use Rattle.std.proofs.Common.{IsErrAnd, MutBor, OnOk, OnErr, inl, inr, sym, ap, subst, ◌∙◌, arith}
 use Rattle.std.specs.Prelude.{⊤}
 use Rattle.oct_io.specs.Counts.{IsAskCounted}
 use Rattle.oct_io.specs.Files.{Files}
@@ -12,7 +12,6 @@ use Rattle.oct_io.specs.declared.store.StoreFault.TheVariants as store_fault
 use Rattle.oct_key.specs.declared.point.Point.{Point}
 use Rattle.oct_map.specs.Map.{Map}
 use Rattle.oct_script.specs.declared.command.Command.{Command}
-use Rattle.oct_script.specs.declared.command.ScanHead.{ScanHead}
 use Rattle.oct_script.specs.declared.reply.Refusal.{Refusal}
 use Rattle.oct_script.specs.declared.reply.Reply.{Reply}
 use Rattle.oct_script.specs.Lines.{Line}
@@ -20,7 +19,7 @@ use Rattle.oct_script.specs.Replies.{is_refusal}
 use Rattle.oct_session.specs.declared.scan_block.ScanBlock.{ScanBlock}
 use Rattle.oct_session.specs.declared.scan_block.ScanBlock.TheVariants.{Scanning, Spoilt}
 use Rattle.oct_script.specs.declared.verbs.FileVerb.{FileVerb}
-use Rattle.oct_session.specs.Kinds.{Kind, Nothing, Opens, Adds, Closes, Names, kind_of}
+use Rattle.oct_session.specs.Kinds.{Kind, Adds, Names, kind_of}
 use Rattle.oct_session.specs.declared.context.Context.{Context}
 use Rattle.oct_session.specs.declared.lines.Parsed.{Parsed}
 use Rattle.oct_session.specs.declared.session.Session.{Session}
@@ -32,7 +31,6 @@ use Rattle.oct_session.specs.Commands.{accepted, accepted_saving, stored}
 use Rattle.oct_session.specs.ScanBlock.{opens_block, opened, kind_opened, is_end, does_close}
 use Rattle.oct_session.specs.ScanBlock.{with_line, with_kind, block_with, GainsPoint}
 use Rattle.oct_session.specs.ScanBlock.{spoilt_by, spoilt_reply, block_reply, block_action}
-use Rattle.oct_session.specs.ScanSoFar.{begun}
 use Rattle.oct_session.specs.History.{History, State, after_all, state_after}
 use Rattle.oct_io.specs.FaultCounts.{IsAsked}
 use Rattle.oct_session.specs.Leaving.{StandsFor, StandsForSome, Desk, desk, HasAsked, IsLike}
@@ -46,7 +44,7 @@ use Rattle.oct_session.specs.Setup.{Setup}
 use Rattle.oct_session.specs.Tally.{capped, counted as count_reply}
 use Rattle.oct_session.specs.declared.tally.Tally.{Tally}
 use Rattle.oct_session.specs.Standing.{with_reply, KeepsStanding, HasAnswered, HasDone}
-use Rattle.oct_session.specs.Standing.{HasScanned, HasWorked, FindsTold, TakesEffect, HasEffect}
+use Rattle.oct_session.specs.Standing.{HasWorked, FindsTold, TakesEffect, HasEffect}
 use Rattle.oct_session.specs.Standing.{HasFailed, TakesMemory, StandsBeside, IsInStep}
 use Rattle.oct_session.specs.Standing.{IsBetween, FailsLine}
 use Rattle.oct_session.proofs.MapHistory.{state_more}
@@ -111,30 +109,6 @@ stands_where_worked (Ok a) m n before block e done =
 stands_where_worked (Err x) m n before block e done = λ o some.
     (some.0, (done (state_after o some.0) some.1).1)
 
--- a line that closes its block was answered, and done unless it is refused
-pub effect_closed : {E : Type 0} (r : Result (Option Reply) E) (m n : Map) (number : ℕ)
-    (c : Result Command Refusal) (inner : ScanBlock) (block : Option ScanBlock) → is_end c ≡ true
-    → block ≡ None →
-    HasScanned m n inner r → HasWorked (λ s. effect_inside s number c inner) inner m n block r
-effect_closed (Ok a) m n number c inner block end none done = λ s at. let took = done s at in
-    rw end (
-      took.0,
-      none,
-      subst (λ x. StandsFor n (after_all s (accepted x (block_action inner)))) took.0 took.1,
-    )
-effect_closed (Err x) m n number c inner block end none done = λ s at. let kept = done s at in
-    rw end (inl kept.0, kept.1)
-
--- a line that closes the block that was open
-pub effect_taken : {E : Type 0} (r : Result (Option Reply) E) (m n : Map) (number : ℕ)
-    (c : Result Command Refusal) (old taken new : Option ScanBlock) (standing : ScanBlock)
-    → is_end c ≡ true → new ≡ None → taken ≡ old → taken ≡ Some standing →
-    HasScanned m n standing r → (first : ScanBlock) → old ≡ Some first
-    → HasWorked (λ s. effect_inside s number c first) first m n new r
-effect_taken r m n number c old taken new standing end none took is done first was =
-    let same : standing ≡ first = cc in
-    effect_closed r m n number c first new end none (subst (λ x. HasScanned m n x r) same done)
-
 -- the block with a command more, by what does that
 with_kind_of : (number : ℕ) (c : Command) (k : Kind) (first : ScanBlock) → kind_of c ≡ k
     → with_line number (Ok c) first ≡ block_with number k first
@@ -158,23 +132,6 @@ point_worked (Err x) m number c p first new a is silent done short = λ s at.
       at,
     )
 
--- a command that neither adds a point nor closes the block changes nothing in it
-abbrev pub StaysInBlock : Kind → Type 0
-StaysInBlock k = (does_close k ≡ false)
-    × ((number : ℕ) (first : ScanBlock) → block_with number k first ≡ first)
-
-pub nothing_worked : (m : Map) (number : ℕ) (c : Command) (k : Kind) (first : ScanBlock)
-    (new : Option ScanBlock) (a : Option Reply) → kind_of c ≡ k → StaysInBlock k → a ≡ None
-    → new ≡ Some first
-    → HasWorked {E = ⊤} (λ s. effect_inside s number (Ok c) first) first m m new (Ok a)
-nothing_worked m number c k first new a is stays silent kept = λ s at.
-    let goes_on : is_end (Ok c) ≡ false = ap does_close is ∙ stays.0 in
-    rw goes_on (
-      silent,
-      kept ∙ ap Some (sym (with_kind_of number c k first is ∙ stays.1 number first)),
-      at,
-    )
-
 -- a line in a block, with the files that stand by
 pub inside_done : (m n : Map) (f : Option Files) (number : ℕ) (line : Line)
     (c : Result Command Refusal) (old new : Option ScanBlock) (a : Option Reply)
@@ -195,22 +152,6 @@ inside_done m n f number line c (Some first) new a some worked = λ files s find
       },
     )
 
-pub inside_failed : (r : Result (Option Reply) StoreFault) (m n : Map) (f : Option Files)
-    (number : ℕ) (line : Line) (c : Result Command Refusal) (old new : Option ScanBlock)
-    → is_some old ≡ true →
-    IsErrAnd r (λ x. x ≡ store_fault.Memory)
-    → ((first : ScanBlock) → old ≡ Some first → (s : State) → StandsFor m s
-    → TakesMemory (Some first) (effect_inside s number c first) × StandsFor n s) →
-    HasEffect (λ files s. effect files s number line c old) (asked_of c) old m f n f new r
-inside_failed (Ok x) m n f number line c old new some memory kept = absurd memory
-inside_failed (Err x) m n f number line c None new some memory kept = cc
-inside_failed (Err x) m n f number line c (Some first) new some memory kept = λ files s finds at.
-    let done = kept first refl s at.stands in (
-      done.0,
-      subst (λ y. HasFailed (asked_of c) files s n f y) (sym memory)
-          (record { stands = done.1; told = at.told }),
-    )
-
 -- a map on which a line in a block was done stands for some history, as before
 pub stands_inside : {E : Type 0} (r : Result (Option Reply) E) (m n : Map) (number : ℕ)
     (c : Result Command Refusal) (old new : Option ScanBlock) → is_some old ≡ true →
@@ -221,7 +162,7 @@ stands_inside r m n number c (Some first) new some works =
     stands_where_worked r m n first new (λ s. effect_inside s number c first) (works first refl)
 
 -- what was answered and done on the map alone, with the files that stand by
-pub map_done : (m n : Map) (f : Option Files) (block : Option ScanBlock) (a : Option Reply)
+map_done : (m n : Map) (f : Option Files) (block : Option ScanBlock) (a : Option Reply)
     (reply : State → Option Reply) (actions : State → History) → block ≡ None
     → HasAnswered reply actions m n a →
     TakesEffect (λ files s. replied (reply s) (actions s) None) None m f n f block a
@@ -250,47 +191,6 @@ map_failed x m n f block reply actions memory kept = λ files s finds at.
 -- what comes of a command outside a block, by what does it
 abbrev pub KindEffect : ℕ → Kind → Option Files → State → Effect
 KindEffect number k files s = unless_opened (effect_of_kind files s k) (kind_opened number k)
-
--- for which memory ran out
-pub map_ran_out : (r : Result (Option Reply) StoreFault) (m n : Map) (f : Option Files)
-    (block : Option ScanBlock) (reply : State → Option Reply) (actions : State → History)
-    → IsErrAnd r (λ x. x ≡ store_fault.Memory) →
-    ((s : State) → StandsFor m s → IsSome (reply s) × StandsFor n s)
-    → HasEffect (λ files s. replied (reply s) (actions s) None) None None m f n f block r
-map_ran_out (Ok a) m n f block reply actions memory kept = absurd memory
-map_ran_out (Err x) m n f block reply actions memory kept =
-    map_failed x m n f block reply actions memory kept
-
--- nothing has to be done for this outside a block
-abbrev pub IsIdleKind : Kind → Type 0
-IsIdleKind k = (k ≡ Nothing) ⊎ (((p : Point) × (k ≡ Adds p)) ⊎ (k ≡ Closes))
-
--- and nothing is
-nothing_done : (m : Map) (f : Option Files) (block : Option ScanBlock) (a : Option Reply)
-    → block ≡ None → a ≡ None
-    → HasEffect (λ files s. replied None [] None) None None m f m f block (Ok a)
-nothing_done m f block a closed silent = λ files s finds at.
-    (silent, closed, record { stands = at.stands; told = at.told })
-
-pub idle_done : (m : Map) (f : Option Files) (number : ℕ) (k : Kind) (block : Option ScanBlock)
-    (a : Option Reply) → IsIdleKind k → block ≡ None → a ≡ None
-    → HasEffect (KindEffect number k) (kind_work k) None m f m f block (Ok a)
-idle_done m f number k block a (inl is) closed silent =
-    subst (λ x. HasEffect (KindEffect number x) (kind_work x) None m f m f block (Ok a)) (sym is)
-    (nothing_done m f block a closed silent)
-idle_done m f number k block a (inr (inl (p, is))) closed silent =
-    subst (λ x. HasEffect (KindEffect number x) (kind_work x) None m f m f block (Ok a)) (sym is)
-    (nothing_done m f block a closed silent)
-idle_done m f number k block a (inr (inr is)) closed silent =
-    subst (λ x. HasEffect (KindEffect number x) (kind_work x) None m f m f block (Ok a)) (sym is)
-    (nothing_done m f block a closed silent)
-
--- a block was opened
-pub head_opened : (m : Map) (f : Option Files) (number : ℕ) (head : ScanHead)
-    (block : Option ScanBlock) (a : Option Reply) → block ≡ Some (Scanning (begun number head))
-    → a ≡ None → HasEffect (KindEffect number (Opens head)) None None m f m f block (Ok a)
-head_opened m f number head block a is silent = λ files s finds at.
-    (silent, is, record { stands = at.stands; told = at.told })
 
 -- a verb with the name of a file had its effect where no block is open
 pub verb_used : {K F T : Type 0} (ghosts : store.Ghosts F) (d e : Context K F)
@@ -353,6 +253,48 @@ pub ran_out : {T : Type 0} (r : Result T StoreFault) (j k : ℕ)
     → IsErrAnd r (λ x. x ≡ store_fault.Memory) → k ≡ j → IsAskCounted r j k
 ran_out (Ok x) j k memory same = absurd memory
 ran_out (Err x) j k memory same = record { stays = tt; failed = λ is. cc; memory = λ is. same }
+
+-- a context with another map and another store
+abbrev pub with_desk : {K F : Type 0} → Context K F → MutBor Map → MutBor F → Context K F
+with_desk d map store = record { alloc = d.alloc; map = map; store = store; sink = d.sink }
+
+-- what the map alone answered and did, where no block is open
+pub map_answered : {K F : Type 0} (ghosts : store.Ghosts F) (d : Context K F) (map : MutBor Map)
+    (block : Option ScanBlock) (a : Option Reply) (reply : State → Option Reply)
+    (actions : State → History) → map.ghost_name ≡ d.map.ghost_name → block ≡ None
+    → HasAnswered reply actions d.map.now map.now a
+    → Works ghosts (λ files s. replied (reply s) (actions s) None) None None block d
+    (with_desk d map d.store) (Ok (tt {0})) a
+map_answered ghosts d map block a reply actions name closed done = record {
+  took = map_done d.map.now map.now (ghosts.files d.store.now) block a reply actions closed done;
+  stands = stands_where_done {E = ⊤} (Ok a) d.map.now map.now reply actions done;
+  asks = unasked _ _ _;
+  counts = well_counted _ _;
+  map_name = name;
+  store_name = refl;
+  sink_name = refl;
+  sink = refl;
+}
+
+-- and where memory ran out for it
+pub map_ran_out : {K F T : Type 0} (ghosts : store.Ghosts F) (d : Context K F) (map : MutBor Map)
+    (block : Option ScanBlock) (r : Result T StoreFault) (a : Option Reply)
+    (reply : State → Option Reply) (actions : State → History)
+    → map.ghost_name ≡ d.map.ghost_name → IsErrAnd r (λ x. x ≡ store_fault.Memory)
+    → ((s : State) → StandsFor d.map.now s → IsSome (reply s) × StandsFor map.now s)
+    → Works ghosts (λ files s. replied (reply s) (actions s) None) None None block d
+    (with_desk d map d.store) r a
+map_ran_out ghosts d map block (Ok x) a reply actions name memory kept = absurd memory
+map_ran_out ghosts d map block (Err x) a reply actions name memory kept = record {
+  took = map_failed x d.map.now map.now (ghosts.files d.store.now) block reply actions memory kept;
+  stands = λ o some. (some.0, (kept (state_after o some.0) some.1).1);
+  asks = unasked _ _ _;
+  counts = ran_out (Err x) _ _ memory refl;
+  map_name = name;
+  store_name = refl;
+  sink_name = refl;
+  sink = refl;
+}
 
 -- a line that isn't in the grammar, where no block is open
 fault_before : (m : Map) (f : Option Files) (refusal : Refusal) (opens : Bool)

@@ -1,7 +1,7 @@
 -- What a load or a restore answers, and what map and files then are; and what a save leaves.
-use Rattle.std.proofs.Common.{◌≡◌, ℕ, List, [], Bool, true, false, cond, length, Option, Some}
-use Rattle.std.proofs.Common.{None, IsSome, Result, Ok, Err, IfOk, IfSome, IsErr, IsErrAnd, inl}
-use Rattle.std.proofs.Common.{inr, refl, sym, ap, subst, ◌∙◌}
+use Rattle.std.proofs.Common.{◌≡◌, ◌+◌, ◌≤◌, ℕ, List, [], MutBor, Bool, true, false, cond, length}
+use Rattle.std.proofs.Common.{Option, Some, None, IsSome, Result, Ok, Err, IfOk, IfSome, IsErr}
+use Rattle.std.proofs.Common.{IsErrAnd, inl, inr, refl, sym, ap, subst, ◌∙◌}
 use Rattle.std.specs.Prelude.{⊤, pos, nat_eq, nat_lt, option_map, ◌++◌}
 use Rattle.oct_bt.specs.declared.fault.BtFault.{BtFault}
 use Rattle.oct_bt.specs.Canonical.{canonical_size, node_total}
@@ -9,6 +9,7 @@ use Rattle.oct_bt.specs.File.{FileRead, reading, bt_text, header_text}
 use Rattle.oct_tree.specs.Classes.{classes_in}
 use Rattle.oct_bt.specs.Records.{record_total}
 use Rattle.oct_bt.proofs.Injective.{same_data}
+use Rattle.oct_io.specs.Counts.{IsAskCounted}
 use Rattle.oct_io.specs.Files.{Files, KeepsOthers, saved}
 use Rattle.oct_io.specs.Loaded.{loaded_of}
 use Rattle.oct_io.specs.declared.store.Loaded.{Loaded}
@@ -27,20 +28,22 @@ use Rattle.oct_odds.specs.Update.{class_of}
 use Rattle.oct_script.specs.declared.reply.Refusal.{Refusal}
 use Rattle.oct_script.specs.declared.reply.Reply.{Reply}
 use Rattle.oct_script.specs.declared.reply.Reply.TheVariants as reply_of
-use Rattle.oct_session.specs.Commands.{FileWork, Puts, accepted, accepted_saving, changed_by}
+use Rattle.oct_session.specs.Commands.{FileWork, Puts, Reads, accepted, accepted_saving}
+use Rattle.oct_session.specs.Commands.{changed_by}
 use Rattle.oct_session.specs.Commands.{named_in}
 use Rattle.oct_session.specs.FileCommands.{found_in, nodes_reply, reading_reply, reading_action}
 use Rattle.oct_session.specs.FileCommands.{load_reply, classes_file, save_reply}
-use Rattle.oct_session.specs.History.{History, State, after_all}
+use Rattle.oct_session.specs.History.{History, State, after_all, state_after}
 use Rattle.oct_session.specs.Leaving.{StandsFor, IsLike, KeepsUnsaved}
-use Rattle.oct_session.specs.Moments.{IsFileOf, SavesFile, saving_effect}
+use Rattle.oct_session.specs.Moments.{IsFileOf, SavesFile, Works, saving_effect}
 use Rattle.oct_session.specs.Refusals.{fault_reply}
 use Rattle.oct_script.specs.Replies.{file_refusal}
 use Rattle.oct_session.specs.Session.{Effect, replied}
 use Rattle.oct_session.specs.Standing.{HasAnswered, HasDone, HasEffect, HasFailed, FindsTold}
 use Rattle.oct_session.specs.Standing.{TakesEffect}
 use Rattle.oct_session.specs.declared.context.Context.{Context}
-use Rattle.oct_session.proofs.Effects.{ran_out, same_files, saves_none, unasked}
+use Rattle.oct_session.proofs.Effects.{counted_done, counted_on, ran_out, same_files, saves_none}
+use Rattle.oct_session.proofs.Effects.{stands_where_done, unasked, with_desk}
 use Rattle.oct_session.proofs.MapHistory.{stands_replaced}
 use Rattle.oct_session.proofs.Readings.{IsTold, reading_told}
 use Rattle.oct_session.proofs.Replying.{refuses, no_reply}
@@ -188,7 +191,7 @@ finds_some reply some g None name (inr told) = cc
 finds_some reply some g (Some files) name finds = some g (loaded_of (files name))
 
 -- a file that was taken in, or refused
-pub load_done : (w : Option FileWork) (reply : Ground → Option Loaded → Option Reply)
+load_done : (w : Option FileWork) (reply : Ground → Option Loaded → Option Reply)
     (actions : Ground → Option Loaded → History) (m n : Map) (f g : Option Files)
     (key name : List ℕ) (found : Loaded) (a : Option Reply) → Names w name → key ≡ name → g ≡ f →
     IfSome f (λ files. found ≡ loaded_of (files key)) →
@@ -212,7 +215,7 @@ load_done w reply actions m n f g key name found a named spelt same has done = �
     )
 
 -- one that the store failed at
-pub load_failed : (w : Option FileWork) (reply : Ground → Option Loaded → Option Reply)
+load_failed : (w : Option FileWork) (reply : Ground → Option Loaded → Option Reply)
     (actions : Ground → Option Loaded → History) → AnswersAll reply
     → (r : Result (Option Reply) StoreFault) (m : Map) (f g : Option Files) (name : List ℕ)
     → Names w name → changed_by w ≡ None → IsErr r → g ≡ f →
@@ -225,7 +228,7 @@ load_failed w reply actions some (Err x) m f g name named none err same = λ fil
 )
 
 -- one that memory ran out for
-pub load_unfinished : (w : Option FileWork) (reply : Ground → Option Loaded → Option Reply)
+load_unfinished : (w : Option FileWork) (reply : Ground → Option Loaded → Option Reply)
     (actions : Ground → Option Loaded → History) → AnswersAll reply
     → (r : Result (Option Reply) StoreFault) (m n : Map) (f g : Option Files) (name : List ℕ)
     (found : Loaded) → Names w name →
@@ -240,6 +243,94 @@ load_unfinished w reply actions some (Err x) m n f g name found named memory sam
       subst (λ y. HasFailed w files s n g y) (sym memory)
           (record { stands = (kept s at.stands).1; told = same ∙ at.told }),
     )
+
+-- a call that takes in a file of the store
+abbrev pub HasRead : {K F T : Type 0} → store.Ghosts F
+    → (Ground → Option Loaded → Option Reply) → (Ground → Option Loaded → History) → List ℕ
+    → Context K F → Context K F → Result T StoreFault → Option Reply → Type 0
+HasRead ghosts reply actions name d e r a =
+    Works ghosts (loading_effect reply actions name) (Some (Reads name)) None None d e r a
+
+-- the store had no file to give
+pub read_failed : {K F T U : Type 0} (ghosts : store.Ghosts F)
+    (reply : Ground → Option Loaded → Option Reply) (actions : Ground → Option Loaded → History)
+    (d : Context K F) (store : MutBor F) (r : Result T StoreFault) (a : Option Reply)
+    (name : List ℕ) (fault : StoreFault) → AnswersAll reply
+    → store.ghost_name ≡ d.store.ghost_name → IsErrAnd r (λ x. x ≡ fault)
+    → ghosts.files store.now ≡ ghosts.files d.store.now
+    → ghosts.calls store.now ≤ ghosts.calls d.store.now + 1
+    → IsAskCounted {T = U} (Err fault) (ghosts.faults d.store.now) (ghosts.faults store.now)
+    → HasRead ghosts reply actions name d (with_desk d d.map store) r a
+read_failed ghosts reply actions d store (Ok x) a name fault some held is same few counted =
+    absurd is
+read_failed ghosts reply actions d store (Err x) a name fault some held is same few counted =
+    record {
+      took = load_failed (Some (Reads name)) reply actions some (Err x) d.map.now
+          (ghosts.files d.store.now) (ghosts.files store.now) name refl refl refl same;
+      stands = λ o some. some;
+      asks = record { unasked = λ none. cc; few = few };
+      counts = counted_on (Err x) fault _ _ is counted;
+      map_name = refl;
+      store_name = held;
+      sink_name = refl;
+      sink = refl;
+    }
+
+-- it had one, and memory ran out for it
+pub read_ran_out : {K F T U : Type 0} (ghosts : store.Ghosts F)
+    (reply : Ground → Option Loaded → Option Reply) (actions : Ground → Option Loaded → History)
+    (d : Context K F) (map : MutBor Map) (store : MutBor F) (r : Result T StoreFault)
+    (a : Option Reply) (name : List ℕ) (found : U) (loaded : Loaded) → AnswersAll reply
+    → map.ghost_name ≡ d.map.ghost_name → store.ghost_name ≡ d.store.ghost_name
+    → IsErrAnd r (λ x. x ≡ store_fault.Memory)
+    → ghosts.files store.now ≡ ghosts.files d.store.now
+    → ghosts.calls store.now ≤ ghosts.calls d.store.now + 1
+    → IsAskCounted (Ok found) (ghosts.faults d.store.now) (ghosts.faults store.now)
+    → ((s : State) → StandsFor d.map.now s
+    → IsSome (reply s.base (Some loaded)) × StandsFor map.now s)
+    → HasRead ghosts reply actions name d (with_desk d map store) r a
+read_ran_out ghosts reply actions d map store (Ok x) a name found loaded some kept held memory
+    same few counted done = absurd memory
+read_ran_out ghosts reply actions d map store (Err x) a name found loaded some kept held memory
+    same few counted done = record {
+      took = load_unfinished (Some (Reads name)) reply actions some (Err x) d.map.now map.now
+          (ghosts.files d.store.now) (ghosts.files store.now) name loaded refl memory same done;
+      stands = λ o some. (some.0, (done (state_after o some.0) some.1).1);
+      asks = record { unasked = λ none. cc; few = few };
+      counts = ran_out (Err x) _ _ memory counted.stays;
+      map_name = kept;
+      store_name = held;
+      sink_name = refl;
+      sink = refl;
+    }
+
+-- it was taken in, or refused
+pub read_done : {K F : Type 0} (ghosts : store.Ghosts F)
+    (reply : Ground → Option Loaded → Option Reply) (actions : Ground → Option Loaded → History)
+    (d : Context K F) (map : MutBor Map) (store : MutBor F) (a : Option Reply)
+    (key name : List ℕ) (loaded : Loaded)
+    → map.ghost_name ≡ d.map.ghost_name → store.ghost_name ≡ d.store.ghost_name → key ≡ name
+    → IfSome (ghosts.files d.store.now) (λ files. loaded ≡ loaded_of (files key))
+    → ghosts.files store.now ≡ ghosts.files d.store.now
+    → ghosts.calls store.now ≤ ghosts.calls d.store.now + 1
+    → IsAskCounted (Ok loaded) (ghosts.faults d.store.now) (ghosts.faults store.now)
+    → HasAnswered (λ s. reply s.base (Some loaded)) (λ s. actions s.base (Some loaded)) d.map.now
+    map.now a
+    → HasRead ghosts reply actions name d (with_desk d map store) (Ok (tt {0})) a
+read_done ghosts reply actions d map store a key name loaded kept held spelt has same few counted
+    done = record {
+      took = load_done (Some (Reads name)) reply actions d.map.now map.now
+          (ghosts.files d.store.now) (ghosts.files store.now) key name loaded a refl spelt same has
+          done;
+      stands = stands_where_done {E = ⊤} (Ok a) d.map.now map.now
+          (λ s. reply s.base (Some loaded)) (λ s. actions s.base (Some loaded)) done;
+      asks = record { unasked = λ none. cc; few = few };
+      counts = counted_done _ _ _ _ counted;
+      map_name = kept;
+      store_name = held;
+      sink_name = refl;
+      sink = refl;
+    }
 
 -- the canonical file depends on the classes of the map's voxels alone
 same_text : (res : ℕ) (c e : Classes) → ((k : Voxel) → IsInMap k → c k ≡ e k)

@@ -1,66 +1,24 @@
-use Rattle.std.proofs.Common.{refl, rules, IsErr, Some}
+use Rattle.std.proofs.Common.{refl}
 use Rattle.oct_session.specs.FileCommands.{load_reply, load_action}
-use Rattle.oct_io.specs.declared.store.StoreFault.TheVariants as store_fault
-use Rattle.oct_session.specs.Commands.{Reads}
-use Rattle.oct_session.specs.Standing.{with_reply}
-use Rattle.oct_session.proofs.Effects.{counted_done, counted_on, failed_for, is_failed, ran_out}
-use Rattle.oct_session.proofs.Effects.{stands_where_done}
-use Rattle.oct_session.proofs.Loading.{load_some, load_done, load_failed, load_unfinished}
+use Rattle.oct_session.proofs.Loading.{load_some, read_done, read_failed, read_ran_out}
 use Rattle.oct_session.proofs.files.load.Goals as goal
 
 pub returns-in_err-loaded : goal.returns-in_err-loaded
 returns-in_err-loaded g c =
-    let err : IsErr c.from_residual.result = search rules in
-    record {
-      took = load_failed (Some (Reads c.args.name.now)) load_reply
-          (λ g found. load_action found) load_some
-          (with_reply c.from_residual.result c.args.reply.now) c.args.context.now.map.now _ _
-          c.args.name.now refl refl (is_failed _ c.args.reply.now err) c.load.ensures.same;
-      stands = λ o some. some;
-      asks = record { unasked = λ none. cc; few = c.load.ensures.called };
-      counts = counted_on _ _ _ _ c.from_residual.ensures.1 c.in_err-loaded.ensures.counts;
-      map_name = refl;
-      store_name = refl;
-      sink_name = refl;
-      sink = refl;
-    }
+    read_failed g.F.Store load_reply (λ g found. load_action found) c.args.context.now _ _ _
+    c.args.name.now _ load_some refl c.from_residual.ensures.1 c.load.ensures.same
+    c.load.ensures.called c.in_err-loaded.ensures.counts
 
 pub returns-in_err-take_in : goal.returns-in_err-take_in
-returns-in_err-take_in g c = record {
-  took = load_unfinished (Some (Reads c.args.name.now)) load_reply
-      (λ g found. load_action found) load_some
-      (with_reply c.from_residual-in_err-take_in.result c.take_in.new.reply)
-      c.args.context.now.map.now c.take_in.new.map _ _ c.args.name.now c.in_ok-loaded.loaded refl
-      (failed_for _ c.take_in.new.reply store_fault.Memory
-      c.from_residual-in_err-take_in.ensures.1) c.load.ensures.same c.in_err-take_in.ensures.done;
-  stands = stands_where_done (with_reply c.take_in.result c.take_in.new.reply)
-      c.args.context.now.map.now c.take_in.new.map
-      (λ s. load_reply s.base (Some c.in_ok-loaded.loaded))
-      (λ s. load_action (Some c.in_ok-loaded.loaded)) c.take_in.ensures.done;
-  asks = record { unasked = λ none. cc; few = c.load.ensures.called };
-  counts = ran_out _ _ _ c.from_residual-in_err-take_in.ensures.1
-      c.in_ok-loaded.ensures.counts.stays;
-  map_name = refl;
-  store_name = refl;
-  sink_name = refl;
-  sink = refl;
-}
+returns-in_err-take_in g c =
+    read_ran_out g.F.Store load_reply (λ g found. load_action found) c.args.context.now _ _ _ _
+    c.args.name.now _ c.in_ok-loaded.loaded load_some refl refl
+    c.from_residual-in_err-take_in.ensures.1 c.load.ensures.same c.load.ensures.called
+    c.in_ok-loaded.ensures.counts c.in_err-take_in.ensures.done
 
 pub returns : goal.returns
-returns g c = record {
-  took = load_done (Some (Reads c.args.name.now)) load_reply (λ g found. load_action found)
-      c.args.context.now.map.now c.take_in.new.map _ _ c.as_str.result.now c.args.name.now
-      c.in_ok-loaded.loaded
-      c.take_in.new.reply refl c.as_str.ensures c.load.ensures.same c.in_ok-loaded.ensures.found
-      c.in_ok-take_in.ensures.done;
-  stands = stands_where_done (with_reply c.take_in.result c.take_in.new.reply)
-      c.args.context.now.map.now c.take_in.new.map
-      (λ s. load_reply s.base (Some c.in_ok-loaded.loaded))
-      (λ s. load_action (Some c.in_ok-loaded.loaded)) c.take_in.ensures.done;
-  asks = record { unasked = λ none. cc; few = c.load.ensures.called };
-  counts = counted_done _ _ _ _ c.in_ok-loaded.ensures.counts;
-  map_name = refl;
-  store_name = refl;
-  sink_name = refl;
-  sink = refl;
-}
+returns g c =
+    read_done g.F.Store load_reply (λ g found. load_action found) c.args.context.now _ _ _
+    c.as_str.result.now c.args.name.now c.in_ok-loaded.loaded refl refl c.as_str.ensures
+    c.in_ok-loaded.ensures.found c.load.ensures.same c.load.ensures.called
+    c.in_ok-loaded.ensures.counts c.in_ok-take_in.ensures.done
