@@ -3,7 +3,7 @@
 ghost use Rattle.std.specs.Prelude.{◌≡◌, ◌⊎◌, ◌<◌, [], ◌++◌, length, OnOk, OnErr, IsSome, false};
 ghost use Rattle.oct_script.specs.Replies.{text_of};
 ghost use Rattle.oct_session.specs.Commands.{may_change};
-ghost use Rattle.oct_session.specs.Parsed.{command_in};
+ghost use Rattle.oct_session.specs.Parsed.{command_in, IsSmallLine};
 ghost use Rattle.oct_session.specs.Moments.{Passes};
 
 use crate::lines::Parsed;
@@ -42,6 +42,7 @@ pub fn flush_before_change<K: Sink>(
     text: &mut Vec<u8>,
     sink: &mut K,
 ) -> Result<(), SinkFault>
+    requires { IsSmallLine parsed.now }
     ensures passes { Passes K.Sink sink.old sink.new text.old.items text.new.items result }
     ensures clear { OnOk result
         ((text.new.items ≡ []) ⊎ (may_change (command_in parsed.now) ≡ false)) }

@@ -1,6 +1,7 @@
 //! Commands by what does them.
 ghost use Rattle.std.specs.Prelude.{◌≡◌};
 ghost use Rattle.oct_script.specs.Commands.{IsSmallCommand};
+ghost use Rattle.oct_session.specs.Commands.{kind_changes};
 ghost use Rattle.oct_session.specs.Kinds.{kind_of, kind_seen, IsSmallKind};
 
 use oct_key::Point;
@@ -54,6 +55,24 @@ pub enum Kind<'a> {
     Snaps(&'a Name),
     /// It restores the snapshot of a name.
     Restores(&'a Name),
+}
+
+impl Kind<'_> {
+    /// Whether it may change the map, or names a file.
+    pub fn may_change(&self) -> bool
+        ensures { result ≡ kind_changes (kind_seen self.now) }
+    {
+        match self {
+            Kind::Nothing | Kind::Opens(_) | Kind::Adds(_) => false,
+            Kind::Asks(question) => matches!(question, Question::Counts),
+            Kind::Closes
+            | Kind::Orders(_)
+            | Kind::Saves(_)
+            | Kind::Loads(_)
+            | Kind::Snaps(_)
+            | Kind::Restores(_) => true,
+        }
+    }
 }
 
 /// The kind of a command.

@@ -26,23 +26,6 @@ fn is_quit(command: &Command) -> bool
     matches!(command, Command::Quit)
 }
 
-/// Whether a command may change the map, or names a file.
-fn may_change(command: &Command) -> bool
-    ensures { result ≡ may_change (Ok command.now) }
-{
-    !matches!(
-        command,
-        Command::Blank
-            | Command::Scan(_)
-            | Command::Beam(_)
-            | Command::Get { .. }
-            | Command::List { .. }
-            | Command::Cast { .. }
-            | Command::Changes
-            | Command::Quit
-    )
-}
-
 /// What was read of a line, in a place of its own, so that no command is moved from call to call.
 #[derive(Clone, Copy)]
 pub struct Parsed {
@@ -94,9 +77,10 @@ impl Parsed {
 
     /// Whether the line may change the map, or names a file. A faulty one does neither.
     pub fn may_change(&self) -> bool
+        requires { IsSmallLine self.now }
         ensures { result ≡ may_change (command_in self.now) }
     {
-        self.refusal.is_none() && may_change(&self.command)
+        self.refusal.is_none() && kind_of(&self.command).may_change()
     }
 
     /// Whether the line ends the session.
