@@ -50,7 +50,8 @@ alike_files res c e ok = (
 -- two states of one resolution have the same file exactly where they have the same classes
 pub files_alike : (o : Setup) → IsSetUp o → (files more : Option Files) (lines others : List Line)
     → (classes_file (state_behind o files lines) ≡ classes_file (state_behind o more others))
-    ↔ SameClasses (classes_in (state_behind o files lines)) (classes_in (state_behind o more others))
+    ↔ SameClasses (classes_in (state_behind o files lines))
+    (classes_in (state_behind o more others))
 files_alike o set files more lines others =
     let s : State = state_behind o files lines in
     let t : State = state_behind o more others in

@@ -66,7 +66,8 @@ module _ (Begins Ends : List Line → Line → Type 0) where
     parts = ap (λ (l : List Line). l ++ x ∷ []) since.parts
         ∙ append_assoc before (since.line ∷ since.later) (x ∷ []);
     begins = since.begins;
-    none = λ between next rest e. by_parts between next (parts_of since.later x between next rest e);
+    none = λ between next rest e.
+        by_parts between next (parts_of since.later x between next rest e);
   }
     where
       by_parts : (between : List Line) (next : Line) → Parts since.later x between next

@@ -139,9 +139,9 @@ pub fn values_are_folds()
         → value_after o history k ≡ alone_after o history k }
 {}
 
-/// The history, of which this speaks, has the commands that were accepted, one after another. A line
-/// adds to it nothing, or the action of its own command or of the scan whose block it ends, and this
-/// only where its reply is no refusal.
+/// The history, of which this speaks, has the commands that were accepted, one after another. A
+/// line adds to it nothing, or the action of its own command or of the scan whose block it ends,
+/// and this only where its reply is no refusal.
 pub fn lines_add_their_own()
     ensures { (o : Setup) (p : Progress) (line : Line) → AddsOwn o p line }
 {}
@@ -312,8 +312,8 @@ pub fn loads_are_exact(options: &Options)
     keep(options);
 }
 
-/// A restore that isn't refused, of whatever file, leaves the voxels the values that the snapshot is
-/// read as, with its log-odds and its box of scans, where it has them, and tells how many groups
+/// A restore that isn't refused, of whatever file, leaves the voxels the values that the snapshot
+/// is read as, with its log-odds and its box of scans, where it has them, and tells how many groups
 /// they need.
 pub fn restores_are_exact(options: &Options)
     ensures { (files : Option Files) (bytes : List ℕ) (before : List Line) (line : Line)
