@@ -77,7 +77,7 @@ stands_at_end end a t h e =
     ] refl
 
 -- the voxel of a code
-abbrev voxel_of : ℕ → Voxel
+abbrev pub voxel_of : ℕ → Voxel
 voxel_of code = record {
   x = gathered 16 code;
   y = gathered 16 (code / 2);
@@ -85,7 +85,7 @@ voxel_of code = record {
 }
 
 -- a voxel with this code is the one
-coded_voxel : (k : Voxel) (code : ℕ) → IsInMap k → code ≡ morton_of k → k ≡ voxel_of code
+pub coded_voxel : (k : Voxel) (code : ℕ) → IsInMap k → code ≡ morton_of k → k ≡ voxel_of code
 coded_voxel k code on_map e =
     let below : code < 2 ^ 48 = rw e (morton_below k) in
     morton_injective k (voxel_of code) on_map
@@ -93,7 +93,7 @@ coded_voxel k code on_map e =
     (sym e ∙ sym (morton_of_gathered code _ _ _ below refl refl refl))
 
 -- where a near walk stands
-abbrev near_voxel : Inside → Voxel
+abbrev pub near_voxel : Inside → Voxel
 near_voxel n = record { x = n.x.key; y = n.y.key; z = n.z.key }
 
 -- at the code of the last voxel no crossing is left
@@ -139,7 +139,7 @@ bits_and true false = refl
 bits_and false true = refl
 bits_and false false = refl
 
-both : (s t : Bool) (i j : ℕ) → i ≡ bit s → j ≡ bit t → bit_and i j ≡ bit (s && t)
+pub both : (s t : Bool) (i j : ℕ) → i ≡ bit s → j ≡ bit t → bit_and i j ≡ bit (s && t)
 both s t i j ei ej =
     ap (λ (n : ℕ). bit_and n j) ei ∙ ap (bit_and (bit s)) ej ∙ bits_and s t
 
@@ -215,12 +215,15 @@ pub record IsStep (n m : Inside) (i j k : ℕ) : Type 0 where
   pub some_y_x : 0 < m.y_after_x
   pub some_z_x : 0 < m.z_after_x
   pub some_z_y : 0 < m.z_after_y
+  pub below_y_x : m.y_after_x < 2 ^ 64
+  pub below_z_x : m.z_after_x < 2 ^ 64
+  pub below_z_y : m.z_after_y < 2 ^ 64
   pub y_after_x : m.y_after_x + i * n.y.pace ≡ n.y_after_x + j * n.x.pace
   pub z_after_x : m.z_after_x + i * n.z.pace ≡ n.z_after_x + k * n.x.pace
   pub z_after_y : m.z_after_y + j * n.z.pace ≡ n.z_after_y + k * n.y.pace
   pub last : m.last ≡ n.last
 
-stays : (rises : Bool) (n : ℕ) → (if rises then n + 0 else n - 0) ≡ n
+pub stays : (rises : Bool) (n : ℕ) → (if rises then n + 0 else n - 0) ≡ n
 stays true n = omega arith
 stays false n = omega arith
 
@@ -259,15 +262,18 @@ axis_steps false end now a b s p q h c e f = record {
 
 -- an order steps as the places of two tracks
 order_steps : (order order' first second first' second' i j p q p' q' : ℕ)
-    → IsOrder order first second → 0 < order' → order' + i * q ≡ order + j * p → q ≡ q' → p ≡ p'
+    → IsOrder order first second → 0 < order' → order' < 2 ^ 64
+    → order' + i * q ≡ order + j * p → q ≡ q' → p ≡ p'
     → first' ≡ first + i * q' → second' ≡ second + j * p' → IsOrder order' first' second'
-order_steps order order' first second first' second' i j p q p' q' h some e eq ep ef es = record {
-  some = some;
-  later =
-      let iq = ap (λ (n : ℕ). i * n) eq in
-      let jp = ap (λ (n : ℕ). j * n) ep in
-      omega (arith, h.later, e, ef, es, iq, jp);
-}
+order_steps order order' first second first' second' i j p q p' q' h some below e eq ep ef es =
+    record {
+      some = some;
+      below = below;
+      later =
+          let iq = ap (λ (n : ℕ). i * n) eq in
+          let jp = ap (λ (n : ℕ). j * n) ep in
+          omega (arith, h.later, e, ef, es, iq, jp);
+    }
 
 -- a near walk after a step is that of the tracks after theirs
 near_steps : (n m : Inside) → IsNear n → (code i j k : ℕ) → code ≡ morton_of (near_voxel n)
@@ -301,19 +307,19 @@ near_steps n m r code i j k coded other now s =
           (axis_steps (crosses_now c a b) (gathered 16 (n.last / 4)) k n.z m.z c a.pace
           b.pace r.axis_c (can_pass_z w r.tracks e) ek s.z);
       y_after_x = order_steps n.y_after_x m.y_after_x a.beside_next b.beside_third _ _ i j n.x.pace
-          n.y.pace a.pace b.pace r.y_after_x s.some_y_x s.y_after_x pace_y pace_x
+          n.y.pace a.pace b.pace r.y_after_x s.some_y_x s.below_y_x s.y_after_x pace_y pace_x
           (next_after (crosses_now a b c) a b.pace c.pace
           ∙ ap (λ (v : ℕ). a.beside_next + v) (by (crosses_now a b c) i b.pace ei))
           (third_after (crosses_now b c a) b c.pace a.pace
           ∙ ap (λ (v : ℕ). b.beside_third + v) (by (crosses_now b c a) j a.pace ej));
       z_after_x = order_steps n.z_after_x m.z_after_x a.beside_third c.beside_next _ _ i k n.x.pace
-          n.z.pace a.pace c.pace r.z_after_x s.some_z_x s.z_after_x pace_z pace_x
+          n.z.pace a.pace c.pace r.z_after_x s.some_z_x s.below_z_x s.z_after_x pace_z pace_x
           (third_after (crosses_now a b c) a b.pace c.pace
           ∙ ap (λ (v : ℕ). a.beside_third + v) (by (crosses_now a b c) i c.pace ei))
           (next_after (crosses_now c a b) c a.pace b.pace
           ∙ ap (λ (v : ℕ). c.beside_next + v) (by (crosses_now c a b) k a.pace ek));
       z_after_y = order_steps n.z_after_y m.z_after_y b.beside_next c.beside_third _ _ j k n.y.pace
-          n.z.pace b.pace c.pace r.z_after_y s.some_z_y s.z_after_y pace_z pace_y
+          n.z.pace b.pace c.pace r.z_after_y s.some_z_y s.below_z_y s.z_after_y pace_z pace_y
           (next_after (crosses_now b c a) b c.pace a.pace
           ∙ ap (λ (v : ℕ). b.beside_next + v) (by (crosses_now b c a) j c.pace ej))
           (third_after (crosses_now c a b) c a.pace b.pace

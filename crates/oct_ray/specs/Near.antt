@@ -25,9 +25,11 @@ pub record AreSmall (x y z : Track) : Type 0 where
   pub z_after_x : AreClose x.beside_third z.beside_next
   pub z_after_y : AreClose y.beside_next z.beside_third
 
--- the order tells how much later the second place comes than the first, above 2 ^ 63
+-- the order tells how much later the second place comes than the first, above 2 ^ 63, and fits 64
+-- bits
 pub record IsOrder (order first second : ℕ) : Type 0 where
   pub some : 0 < order
+  pub below : order < 2 ^ 64
   pub later : order + first ≡ 2 ^ 63 + second
 
 -- what a near walk keeps of a track

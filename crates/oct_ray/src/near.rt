@@ -11,17 +11,17 @@ use oct_key::{Dilated, morton_of_axes};
 use std::marker::Model;
 
 /// The order of two crossings at one place.
-const TOGETHER: u64 = 1 << 63;
+pub(crate) const TOGETHER: u64 = 1 << 63;
 
 /// One axis of a walk in 64 bits.
 #[derive(Debug, Drop)]
-struct NearAxis {
+pub(crate) struct NearAxis {
     /// The number of the voxels where the walk stands, with its bits where a code has them.
-    key: Dilated,
+    pub(crate) key: Dilated,
     /// Whether the axis rises.
-    rises: bool,
+    pub(crate) rises: bool,
     /// What a crossing of another axis adds to its place beside this one.
-    pace: u64,
+    pub(crate) pace: u64,
 }
 
 impl NearAxis {
@@ -62,7 +62,7 @@ fn order(first: u128, second: u128) -> u64
 
 /// 1 where the second crossing comes no earlier.
 #[inline(always)]
-fn not_before(order: u64) -> u64
+pub(crate) fn not_before(order: u64) -> u64
     ensures { result ≡ bit (nat_le (2 ^ 63) order) }
 {
     order >> 63
@@ -70,7 +70,7 @@ fn not_before(order: u64) -> u64
 
 /// 1 where the second crossing comes no later.
 #[inline(always)]
-fn not_after(order: u64) -> u64
+pub(crate) fn not_after(order: u64) -> u64
     requires { 0 < order }
     ensures { result ≡ bit (nat_le order (2 ^ 63)) }
 {
@@ -79,7 +79,13 @@ fn not_after(order: u64) -> u64
 
 /// The order after a step, in which each of the two crossings is taken where its number is 1.
 #[inline(always)]
-fn order_after(order: u64, first: u64, second: u64, first_pace: u64, second_pace: u64) -> u64
+pub(crate) fn order_after(
+    order: u64,
+    first: u64,
+    second: u64,
+    first_pace: u64,
+    second_pace: u64,
+) -> u64
     requires order { 0 < order }
     requires first { first ≤ 1 }
     requires second { second ≤ 1 }
@@ -97,17 +103,17 @@ fn order_after(order: u64, first: u64, second: u64, first_pace: u64, second_pace
 /// another, and not where. Contracts see it as the list of the voxels still to come.
 #[derive(Debug, Drop)]
 pub struct NearWalk {
-    x: NearAxis,
-    y: NearAxis,
-    z: NearAxis,
+    pub(crate) x: NearAxis,
+    pub(crate) y: NearAxis,
+    pub(crate) z: NearAxis,
     /// How much later y crosses than x, above [`TOGETHER`].
-    y_after_x: u64,
+    pub(crate) y_after_x: u64,
     /// How much later z crosses than x.
-    z_after_x: u64,
+    pub(crate) z_after_x: u64,
     /// How much later z crosses than y.
-    z_after_y: u64,
+    pub(crate) z_after_y: u64,
     /// The code of the last voxel.
-    last: u64,
+    pub(crate) last: u64,
 }
 
 impl Model for NearWalk {
