@@ -29,3 +29,4 @@ pub mod CodeBoxes
 pub mod Comings
 pub mod Entries
 pub mod Tabled
+pub mod Marked

@@ -157,28 +157,6 @@ pile_all old pile pile' ps same all more =
     let all' = subst (All IsBrick) (sym same) all in
     both_bricks pile' ps more (λ b h some. place_brick pile ps b all' h some)
 
--- a voxel more in the pile
-pub pile_marked : (code : ℕ) (old pile pile' ps : List Brick) (b : Brick) → pile ++ filled ps ≡ old
-    → All IsBrick old → All IsBrick pile' → HasMore (λ b. b.scanned) pile pile' b
-    → HasMore (λ b. b.hits) pile pile' b → b.hits ≡ 0
-    → ((c : ℕ) → HasCode b.code b.scanned c ↔ (code ≡ c))
-    → IsVoxelAdded code old (pile' ++ filled ps)
-pile_marked code old pile pile' ps b same all all' more hit none one =
-    let scanned = pile_more (λ b. b.scanned) old pile pile' ps b same more in
-    let hits = pile_more (λ b. b.hits) old pile pile' ps b same hit in
-    record {
-      scanned = λ c. (
-        λ h. elim ((scanned c).0 h) [ inl k ↦ inl k | inr k ↦ inr ((one c).0 k) ],
-        λ h. (scanned c).1 (elim h [ inl k ↦ inl k | inr k ↦ inr ((one c).1 k) ]),
-      );
-      hits = λ c. (
-        λ h. elim ((hits c).0 h)
-            [ inl k ↦ k | inr k ↦ absurd (none_of b.hits b.code c none k) ],
-        λ h. (hits c).1 (inl h),
-      );
-      bricks = pile_all old pile pile' ps same all all';
-    }
-
 -- the brick of a place goes to the pile or is taken up by the next one, in which the voxel of a
 -- code is new
 pub record IsReplaced (code : ℕ) (pile pile' : List Brick) (a j : Brick) : Type 0 where
@@ -322,23 +300,6 @@ poured_all old ps i pile l current h =
 abbrev pub empty : Brick
 empty = record { code = 0; scanned = 0; hits = 0 }
 
--- a voxel more, beside a brick with none
-pub held_more : (code : ℕ) (bs bs' : List Brick) → IsVoxelAdded code bs bs' → (c : ℕ)
-    → IsHeld bs' empty c ↔ (IsHeld bs empty c ⊎ (code ≡ c))
-held_more code bs bs' h c = (
-  λ m. elim m [
-    | inl k ↦ elim ((h.scanned c).0 k) [ inl p ↦ inl (inl p) | inr p ↦ inr p ]
-    | inr k ↦ absurd (none_of 0 0 c refl k)
-  ],
-  λ m. elim m [
-    | inl k ↦ elim k [
-      | inl p ↦ inl ((h.scanned c).1 (inl p))
-      | inr p ↦ absurd (none_of 0 0 c refl p)
-    ]
-    | inr e ↦ inl ((h.scanned c).1 (inr e))
-  ],
-)
-
 -- bricks that hold the same as others are gathered along the same beams
 pub gathered_same : (edge : ℕ) (window : Option Window) (o : Point) (bs : List Beam)
     (old new : List Brick) → HoldSame old new → HoldAllGathered edge window o bs old
@@ -406,6 +367,13 @@ fresh code a j below is none unhit h =
 pub read_current : (ps : List Brick) (i : ℕ) (a : Brick) → i < length ps → a ≡ get_or ps i a
     → All IsCurrent ps → IsCurrent a
 read_current ps i a l is all = All-contains IsCurrent ps a all (stands ps i a l is)
+
+-- what is read of a place that is there is what stands there, whatever else would be read
+pub read_same : {X : Type 0} (xs : List X) (i : ℕ) (d e : X) → i < length xs
+    → get_or xs i d ≡ get_or xs i e
+read_same [] i d e l = absurd (omega (arith, l))
+read_same (x ∷ xs) zero d e l = refl
+read_same (x ∷ xs) (suc i) d e l = read_same xs i d e (omega (arith, l))
 
 pub set_current : (code : ℕ) (ps : List Brick) (i : ℕ) (a j : Brick) → i < length ps
     → a ≡ get_or ps i a → All IsCurrent ps → IsWith code a j → All IsCurrent (set ps i j)

@@ -281,28 +281,12 @@ fn push_way(bricks: &mut BrickTable, walk: Walk, end: u64) -> Result<(), Memory>
     ensures { OnOk result (IsWayAdded None end walk bricks.old bricks.new) }
 {
     match walk.near(end) {
-        Ok(near) => {
-            if bricks.is_dense() {
-                return mark_steps(bricks, near);
-            }
-            push_steps(bricks, near, Brick::around(end))
-        }
+        Ok(near) => match bricks.mark_way(near)? {
+            Some(near) => push_steps(bricks, near, Brick::around(end)),
+            None => Ok(()),
+        },
         Err(walk) => push_steps(bricks, walk, Brick::around(end)),
     }
-}
-
-/// Sets the voxels of a walk but that of the end in a table.
-#[inline(never)]
-fn mark_steps<W: BeamWalk>(bricks: &mut BrickTable, walk: W) -> Result<(), Memory>
-    requires { All IsBrick bricks.old }
-    ensures { OnOk result ((end : Voxel) → IsInMap end → EndsAt end (W.to_come walk)
-        → IsWayAdded None (morton_of end) (W.to_come walk) bricks.old bricks.new) }
-{
-    let mut walk = walk;
-    while let Some(code) = walk.next_but_last() {
-        bricks.mark(code)?;
-    }
-    Ok(())
 }
 
 /// Adds the current brick and the voxels of a walk of either kind but that of the end.

@@ -3,7 +3,7 @@ ghost use Rattle.std.specs.Prelude.{◌≡◌, ℕ, ◌+◌, ◌*◌, ◌^◌, �
 ghost use Rattle.std.specs.Prelude.{length};
 ghost use Rattle.oct_brick.specs.Masks.{HasCode};
 ghost use Rattle.oct_brick.specs.Bricks.{scanned_codes, hit_codes, IsBrick};
-ghost use Rattle.oct_scan.specs.Gathered.{IsHeld};
+ghost use Rattle.oct_scan.specs.Gathered.{IsCurrent, IsHeld};
 ghost use Rattle.oct_scan.specs.Piled.{AreFew};
 
 use oct_brick::{Brick, merge_bricks};
@@ -117,6 +117,23 @@ impl BrickPile {
     {
         self.bricks
     }
+}
+
+/// Adds the brick of a place to a pile, where it isn't empty.
+#[inline(always)]
+pub fn put_away(pile: &mut BrickPile, brick: Brick) -> Result<(), Memory>
+    requires bricks { All IsBrick pile.old }
+    requires current { IsCurrent brick }
+    ensures scanned { OnOk result ((c : ℕ) →
+        Contains (scanned_codes pile.new) c ↔ IsHeld pile.old brick c) }
+    ensures hits { OnOk result ((c : ℕ) →
+        Contains (hit_codes pile.new) c ↔ Contains (hit_codes pile.old) c) }
+    ensures bricks { OnOk result (All IsBrick pile.new) }
+{
+    if brick.scanned != 0 {
+        pile.push(brick)?;
+    }
+    Ok(())
 }
 
 /// Merges the bricks, where there is no room for one more.

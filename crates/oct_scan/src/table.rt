@@ -1,22 +1,23 @@
 //! The bricks that beams fill, with a table in which those of a dense scan stand.
-ghost use Rattle.std.specs.Prelude.{◌≡◌, ℕ, ◌^◌, ◌<◌, ◌↔◌, ◌⊎◌, [], All, Contains, IfOk, OnOk};
-ghost use Rattle.std.specs.Prelude.{◌++◌};
+ghost use Rattle.std.specs.Prelude.{◌≡◌, ℕ, ◌↔◌, ◌⊎◌, [], All, Contains, IfOk, OnOk};
+ghost use Rattle.std.specs.Prelude.{◌++◌, None, IfSome, IsNone};
 ghost use Rattle.oct_brick.specs.Masks.{HasCode};
 ghost use Rattle.oct_brick.specs.Bricks.{scanned_codes, hit_codes, IsBrick};
-ghost use Rattle.oct_scan.specs.Gathered.{IsCurrent, IsHeld};
-ghost use Rattle.oct_scan.specs.Piled.{AreFew, HoldSame, IsVoxelAdded, filled};
+ghost use Rattle.oct_key.specs.Morton.{morton_of};
+ghost use Rattle.oct_key.specs.Voxel.{Voxel, IsInMap};
+ghost use Rattle.oct_scan.specs.Gathered.{EndsAt, IsCurrent, IsHeld, IsWayAdded};
+ghost use Rattle.oct_scan.specs.Piled.{AreFew, HoldSame, filled};
 
 use crate::beam::PlacedBeam;
 use crate::density::are_dense;
-use crate::pile::BrickPile;
+use crate::marks::{PLACES, mark_steps};
+use crate::pile::{BrickPile, put_away};
 use oct_brick::Brick;
 use oct_key::Key;
 use oct_num::Memory;
+use oct_ray::{NearWalk, PacedWalk};
 use std::alloc::Global;
 use std::marker::Model;
-
-/// How many places a table has: one for each brick of a block of 64 by 64 by 32 of them.
-const PLACES: usize = 1 << 17;
 
 /// The bricks of the beams so far. In a dense scan those that beams pass stand in a table, by the
 /// last bits of their codes, so that a voxel is set with no search. A brick goes to the pile where
@@ -75,11 +76,6 @@ impl BrickTable {
         })
     }
 
-    /// Whether there is a table.
-    pub fn is_dense(&self) -> bool {
-        self.places.len() > 0
-    }
-
     /// Adds the voxels of a brick.
     #[inline(always)]
     pub fn push(&mut self, brick: Brick) -> Result<(), Memory>
@@ -94,41 +90,22 @@ impl BrickTable {
         self.pile.push(brick)
     }
 
-    /// Adds a voxel that isn't hit.
+    /// Adds the voxels of a walk but that of the end, none of them as hit, where there is a table;
+    /// else it gives the walk back.
     #[inline(always)]
-    pub fn mark(&mut self, code: u64) -> Result<(), Memory>
+    pub fn mark_way(&mut self, walk: NearWalk) -> Result<Option<NearWalk>, Memory>
         requires bricks { All IsBrick self.old }
-        requires code { code < 2 ^ 48 }
-        ensures { OnOk result (IsVoxelAdded code self.old self.new) }
+        ensures added { IfOk result (λ left. IsNone left → (end : Voxel) → IsInMap end
+            → EndsAt end walk → IsWayAdded None (morton_of end) walk self.old self.new) }
+        ensures same { IfOk result (λ left. IfSome left (λ back.
+            (back ≡ walk) × (self.new ≡ self.old))) }
     {
-        let at = place_of(code);
-        if at < self.places.len() {
-            let known = self.places[at];
-            if known.code == code >> 6 {
-                self.places[at] = known.with_scanned(code);
-                return Ok(());
-            }
+        if self.places.len() != PLACES {
+            return Ok(Some(walk));
         }
-        self.exchange(code)
-    }
-
-    /// The same where another brick stands in the place, which goes to the pile.
-    #[inline(never)]
-    fn exchange(&mut self, code: u64) -> Result<(), Memory>
-        requires bricks { All IsBrick self.old }
-        requires code { code < 2 ^ 48 }
-        ensures { OnOk result (IsVoxelAdded code self.old self.new) }
-    {
-        let brick = Brick::around(code).with_scanned(code);
-        let at = place_of(code);
-        if at >= self.places.len() {
-            self.pile.push(brick)?;
-            return Ok(());
-        }
-        let known = self.places[at];
-        put_away(&mut self.pile, known)?;
-        self.places[at] = brick;
-        Ok(())
+        let walk = PacedWalk::new(walk);
+        mark_steps(&mut self.pile, self.places.as_mut_slice(), walk)?;
+        Ok(None)
     }
 
     /// The bricks, in no order, and of a code there may be several.
@@ -153,28 +130,4 @@ fn pour(pile: &mut BrickPile, places: &[Brick]) -> Result<(), Memory>
         put_away(pile, brick)?;
     }
     Ok(())
-}
-
-/// Adds the brick of a place to a pile, where it isn't empty.
-#[inline(always)]
-fn put_away(pile: &mut BrickPile, brick: Brick) -> Result<(), Memory>
-    requires bricks { All IsBrick pile.old }
-    requires current { IsCurrent brick }
-    ensures scanned { OnOk result ((c : ℕ) →
-        Contains (scanned_codes pile.new) c ↔ IsHeld pile.old brick c) }
-    ensures hits { OnOk result ((c : ℕ) →
-        Contains (hit_codes pile.new) c ↔ Contains (hit_codes pile.old) c) }
-    ensures bricks { OnOk result (All IsBrick pile.new) }
-{
-    if brick.scanned != 0 {
-        pile.push(brick)?;
-    }
-    Ok(())
-}
-
-/// The place of the brick of a voxel of this code: bricks that lie near one another have different
-/// ones.
-#[inline(always)]
-fn place_of(code: u64) -> usize {
-    (code >> 6) as usize & (PLACES - 1)
 }

@@ -1,6 +1,6 @@
 use Rattle.std.proofs.Common.{◌<◌, ◌^◌, rules}
 use Rattle.oct_scan.proofs.Holding.{pushed_unhit, current_brick}
-use Rattle.oct_scan.proofs.table.put_away.Goals as goal
+use Rattle.oct_scan.proofs.pile.put_away.Goals as goal
 
 pub push-requires-clause-brick : goal.push-requires-clause-brick
 push-requires-clause-brick c =
