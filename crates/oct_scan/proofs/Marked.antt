@@ -6,7 +6,6 @@ use Rattle.std.specs.List.{All, Contains}
 use Rattle.std.proofs.lemmas.List.Elements.{All-contains, Contains-push, Contains-push_cases}
 use Rattle.std.proofs.lemmas.List.Elements.{Contains-append_cases, Contains-append_left}
 use Rattle.std.proofs.lemmas.List.Elements.{Contains-append_right}
-use Rattle.std.proofs.lemmas.List.{length-append}
 use Rattle.std.proofs.Math.Seq.{take-append_seam}
 use Rattle.oct_key.specs.Voxel.{Voxel, IsInMap}
 use Rattle.oct_key.specs.Morton.{morton_of}
@@ -14,26 +13,40 @@ use Rattle.oct_key.proofs.Interleavings.{morton_injective}
 use Rattle.oct_ray.specs.Given.{HasGiven}
 use Rattle.oct_ray.specs.Paced.{HasGivenPair}
 use Rattle.oct_brick.specs.declared.brick.Brick.{Brick}
-use Rattle.oct_brick.specs.Bricks.{IsBrick}
+use Rattle.oct_brick.specs.Bricks.{scanned_codes, hit_codes, IsBrick}
 use Rattle.oct_brick.proofs.Lists.{all_contained, contains_from_map, contains_cases}
 use Rattle.oct_brick.proofs.Lists.{contains_map, contains_none}
-use Rattle.oct_scan.specs.Gathered.{EndsAt, IsWayAdded}
-use Rattle.oct_scan.specs.Marked.{AreMarked, with_table}
+use Rattle.oct_scan.specs.Gathered.{EndsAt, IsCurrent, IsHeld, IsRestAdded, IsWayAdded}
+use Rattle.oct_scan.specs.Marked.{AreMarked, ArePushed, AreTaken, with_table}
 use Rattle.oct_scan.specs.Piled.{IsVoxelAdded}
 use Rattle.oct_scan.proofs.Ends.{end_later}
 
-pub marked_none : (walk : List Voxel) (bs : List Brick) → All IsBrick bs → AreMarked walk walk bs bs
-marked_none walk bs bricks = record {
+taken_none : (walk : List Voxel) (P : ℕ → Type 0) → AreTaken walk walk P P
+taken_none walk P = record {
   front = [];
   parted = refl;
   some = λ s. s;
   on_map = all_contained IsInMap [] (λ k h. absurd (contains_none k h));
-  scanned = λ c. (
+  codes = λ c. (
     λ h. inl h,
     λ h. elim h [ inl k ↦ k | inr k ↦ absurd (contains_none c k) ],
   );
+}
+
+pub marked_none : (walk : List Voxel) (bs : List Brick) → All IsBrick bs → AreMarked walk walk bs bs
+marked_none walk bs bricks = record {
+  taken = taken_none walk (Contains (scanned_codes bs));
   hits = λ c. (λ h. h, λ h. h);
   bricks = bricks;
+}
+
+pub pushed_none : (walk : List Voxel) (bs : List Brick) (b : Brick) → All IsBrick bs → IsCurrent b
+    → ArePushed walk walk bs b bs b
+pushed_none walk bs b bricks current = record {
+  taken = taken_none walk (IsHeld bs b);
+  hits = λ c. (λ h. h, λ h. h);
+  bricks = bricks;
+  current = current;
 }
 
 -- the codes of one voxel more
@@ -57,11 +70,15 @@ code_more front k c = (
   ],
 )
 
+-- one code more
+abbrev pub HasMoreCode : ℕ → (ℕ → Type 0) → (ℕ → Type 0) → Type 0
+HasMoreCode code before after = (c : ℕ) → after c ↔ (before c ⊎ (code ≡ c))
+
 -- one voxel more
-pub marked_one : (walk rest rest' : List Voxel) (old mid new : List Brick) (code : ℕ)
-    → AreMarked walk rest old mid → HasGiven rest rest' code → rest' ≢ []
-    → IsVoxelAdded code mid new → AreMarked walk rest' old new
-marked_one walk rest rest' old mid new code m g more a = record {
+taken_one : (walk rest rest' : List Voxel) (P Q R : ℕ → Type 0) (code : ℕ)
+    → AreTaken walk rest P Q → HasGiven rest rest' code → rest' ≢ [] → HasMoreCode code Q R
+    → AreTaken walk rest' P R
+taken_one walk rest rest' P Q R code m g more a = record {
   front = m.front ++ g.voxel ∷ [];
   parted = m.parted ∙ ap (λ (ks : List Voxel). m.front ++ ks) g.first
       ∙ sym (append_assoc m.front (g.voxel ∷ []) rest');
@@ -71,66 +88,119 @@ marked_one walk rest rest' old mid new code m g more a = record {
         | inl p ↦ All-contains IsInMap m.front k m.on_map p
         | inr e ↦ subst IsInMap e g.on_map
       ]);
-  scanned = λ c. (
-    λ h. elim ((a.scanned c).0 h) [
-      | inl k ↦ elim ((m.scanned c).0 k) [
+  codes = λ c. (
+    λ h. elim ((a c).0 h) [
+      | inl k ↦ elim ((m.codes c).0 k) [
         | inl p ↦ inl p
         | inr p ↦ inr ((code_more m.front g.voxel c).1 (inl p))
       ]
       | inr e ↦ inr ((code_more m.front g.voxel c).1 (inr (sym g.coded ∙ e)))
     ],
-    λ h. (a.scanned c).1 (elim h [
-      | inl p ↦ inl ((m.scanned c).1 (inl p))
+    λ h. (a c).1 (elim h [
+      | inl p ↦ inl ((m.codes c).1 (inl p))
       | inr p ↦ elim ((code_more m.front g.voxel c).0 p) [
-        | inl q ↦ inl ((m.scanned c).1 (inr q))
+        | inl q ↦ inl ((m.codes c).1 (inr q))
         | inr e ↦ inr (g.coded ∙ e)
       ]
     ]),
   );
-  hits = λ c. (
-    λ h. (m.hits c).0 ((a.hits c).0 h),
-    λ h. (a.hits c).1 ((m.hits c).1 h),
-  );
-  bricks = a.bricks;
 }
 
--- a voxel that is added twice is added once
-added_again : (code : ℕ) (old mid new : List Brick) → IsVoxelAdded code old mid
-    → IsVoxelAdded code mid new → IsVoxelAdded code old new
-added_again code old mid new a b = record {
-  scanned = λ c. (
-    λ h. elim ((b.scanned c).0 h) [ inl k ↦ (a.scanned c).0 k | inr e ↦ inr e ],
-    λ h. (b.scanned c).1 (inl ((a.scanned c).1 h)),
-  );
-  hits = λ c. (
-    λ h. (a.hits c).0 ((b.hits c).0 h),
-    λ h. (b.hits c).1 ((a.hits c).1 h),
-  );
-  bricks = b.bricks;
-}
+-- a code that comes twice comes once
+more_again : (first second : ℕ) (P Q R : ℕ → Type 0) → first ≡ second → HasMoreCode first P Q
+    → HasMoreCode second Q R → HasMoreCode first P R
+more_again first second P Q R same a b = λ c. (
+  λ h. elim ((b c).0 h) [ inl k ↦ (a c).0 k | inr e ↦ inr (same ∙ e) ],
+  λ h. (b c).1 (inl ((a c).1 h)),
+)
 
 given_some : (old new : List Voxel) (code : ℕ) → HasGiven old new code → old ≢ []
 given_some old new code g none = absurd (let h : ⊥ = cc (sym g.first ∙ none) in h)
 
 -- two voxels more, or one
+taken_pair : (walk rest rest' : List Voxel) (P Q S R : ℕ → Type 0) (first second : ℕ)
+    → AreTaken walk rest P Q → HasGivenPair rest rest' first second → rest' ≢ []
+    → HasMoreCode first Q S → HasMoreCode second S R → AreTaken walk rest' P R
+taken_pair walk rest rest' P Q S R first second m g more a b = elim g.next [
+  | inl same ↦ taken_one walk rest rest' P Q R first m
+      (subst (λ (ks : List Voxel). HasGiven rest ks first) same.0 g.given) more
+      (more_again first second Q S R same.1 a b)
+  | inr later ↦ taken_one walk g.middle rest' P S R second
+      (taken_one walk rest g.middle P Q S first m g.given
+      (given_some g.middle rest' second later) a) later more b
+]
+
+-- what stays the same twice stays the same
+stays_so : (P Q R : ℕ → Type 0) → ((c : ℕ) → Q c ↔ P c) → ((c : ℕ) → R c ↔ Q c)
+    → (c : ℕ) → R c ↔ P c
+stays_so P Q R a b c = (λ h. (a c).0 ((b c).0 h), λ h. (b c).1 ((a c).1 h))
+
+-- the codes that bricks hit
+abbrev hit_in : List Brick → ℕ → Type 0
+hit_in bs c = Contains (hit_codes bs) c
+
+-- and those that they change
+abbrev in_all : List Brick → ℕ → Type 0
+in_all bs c = Contains (scanned_codes bs) c
+
+pub marked_one : (walk rest rest' : List Voxel) (old mid new : List Brick) (code : ℕ)
+    → AreMarked walk rest old mid → HasGiven rest rest' code → rest' ≢ []
+    → IsVoxelAdded code mid new → AreMarked walk rest' old new
+marked_one walk rest rest' old mid new code m g more a = record {
+  taken = taken_one walk rest rest' (in_all old) (in_all mid) (in_all new) code m.taken g more
+      a.scanned;
+  hits = stays_so (hit_in old) (hit_in mid) (hit_in new) m.hits a.hits;
+  bricks = a.bricks;
+}
+
 pub marked_pair : (walk rest rest' : List Voxel) (old mid next new : List Brick)
     (first second : ℕ) → AreMarked walk rest old mid → HasGivenPair rest rest' first second
     → rest' ≢ [] → IsVoxelAdded first mid next → IsVoxelAdded second next new
     → AreMarked walk rest' old new
-marked_pair walk rest rest' old mid next new first second m g more a b = elim g.next [
-  | inl same ↦ marked_one walk rest rest' old mid new first m
-      (subst (λ (ks : List Voxel). HasGiven rest ks first) same.0 g.given) more
-      (added_again first mid next new a
-      (subst (λ (code : ℕ). IsVoxelAdded code next new) (sym same.1) b))
-  | inr later ↦ marked_one walk g.middle rest' old next new second
-      (marked_one walk rest g.middle old mid next first m g.given
-      (given_some g.middle rest' second later) a) later more b
-]
+marked_pair walk rest rest' old mid next new first second m g more a b = record {
+  taken = taken_pair walk rest rest' (in_all old) (in_all mid) (in_all next) (in_all new) first
+      second m.taken g more a.scanned b.scanned;
+  hits = stays_so (hit_in old) (hit_in next) (hit_in new)
+      (stays_so (hit_in old) (hit_in mid) (hit_in next) m.hits a.hits) b.hits;
+  bricks = b.bricks;
+}
+
+-- bricks and a current one have one code more
+pub record HasPushed (code : ℕ) (old : List Brick) (brick : Brick) (new : List Brick)
+    (next : Brick) : Type 0 where
+  pub scanned : (c : ℕ) → IsHeld new next c ↔ (IsHeld old brick c ⊎ (code ≡ c))
+  pub hits : (c : ℕ) → Contains (hit_codes new) c ↔ Contains (hit_codes old) c
+  pub bricks : All IsBrick new
+  pub current : IsCurrent next
+
+pub pushed_one : (walk rest rest' : List Voxel) (old mid new : List Brick) (b bm b' : Brick)
+    (code : ℕ) → ArePushed walk rest old b mid bm → HasGiven rest rest' code → rest' ≢ []
+    → HasPushed code mid bm new b' → ArePushed walk rest' old b new b'
+pushed_one walk rest rest' old mid new b bm b' code m g more a = record {
+  taken = taken_one walk rest rest' (IsHeld old b) (IsHeld mid bm) (IsHeld new b') code m.taken g
+      more a.scanned;
+  hits = stays_so (hit_in old) (hit_in mid) (hit_in new) m.hits a.hits;
+  bricks = a.bricks;
+  current = a.current;
+}
+
+pub pushed_pair : (walk rest rest' : List Voxel) (old mid next new : List Brick)
+    (b bm bn b' : Brick) (first second : ℕ) → ArePushed walk rest old b mid bm
+    → HasGivenPair rest rest' first second → rest' ≢ [] → HasPushed first mid bm next bn
+    → HasPushed second next bn new b' → ArePushed walk rest' old b new b'
+pushed_pair walk rest rest' old mid next new b bm bn b' first second m g more a d = record {
+  taken = taken_pair walk rest rest' (IsHeld old b) (IsHeld mid bm) (IsHeld next bn)
+      (IsHeld new b') first second m.taken g more a.scanned d.scanned;
+  hits = stays_so (hit_in old) (hit_in next) (hit_in new)
+      (stays_so (hit_in old) (hit_in mid) (hit_in next) m.hits a.hits) d.hits;
+  bricks = d.bricks;
+  current = d.current;
+}
 
 -- and more of what is left
-pub marked_on : (walk mid rest : List Voxel) (old bs new : List Brick) → AreMarked walk mid old bs
-    → AreMarked mid rest bs new → AreMarked walk rest old new
-marked_on walk mid rest old bs new m n = record {
+taken_on : (walk mid rest : List Voxel) (P Q R : ℕ → Type 0) → AreTaken walk mid P Q
+    → AreTaken mid rest Q R → AreTaken walk rest P R
+taken_on walk mid rest P Q R m n = record {
   front = m.front ++ n.front;
   parted = m.parted ∙ ap (λ (ks : List Voxel). m.front ++ ks) n.parted
       ∙ sym (append_assoc m.front n.front rest);
@@ -140,27 +210,22 @@ marked_on walk mid rest old bs new m n = record {
         | inl p ↦ All-contains IsInMap m.front k m.on_map p
         | inr p ↦ All-contains IsInMap n.front k n.on_map p
       ]);
-  scanned = λ c. (
-    λ h. elim ((n.scanned c).0 h) [
-      | inl k ↦ elim ((m.scanned c).0 k) [
+  codes = λ c. (
+    λ h. elim ((n.codes c).0 h) [
+      | inl k ↦ elim ((m.codes c).0 k) [
         | inl p ↦ inl p
         | inr p ↦ inr ((codes_on m.front n.front c).1 (inl p))
       ]
       | inr k ↦ inr ((codes_on m.front n.front c).1 (inr k))
     ],
-    λ h. (n.scanned c).1 (elim h [
-      | inl p ↦ inl ((m.scanned c).1 (inl p))
+    λ h. (n.codes c).1 (elim h [
+      | inl p ↦ inl ((m.codes c).1 (inl p))
       | inr p ↦ elim ((codes_on m.front n.front c).0 p) [
-        | inl q ↦ inl ((m.scanned c).1 (inr q))
+        | inl q ↦ inl ((m.codes c).1 (inr q))
         | inr q ↦ inr q
       ]
     ]),
   );
-  hits = λ c. (
-    λ h. (m.hits c).0 ((n.hits c).0 h),
-    λ h. (n.hits c).1 ((m.hits c).1 h),
-  );
-  bricks = n.bricks;
 }
   where
     codes_on : (front later : List Voxel) (c : ℕ)
@@ -186,11 +251,23 @@ marked_on walk mid rest old bs new m n = record {
       ],
     )
 
--- no more voxels are left than there were
-pub marked_few : (walk rest : List Voxel) (old new : List Brick) → AreMarked walk rest old new
-    → length rest ≤ length walk
-marked_few walk rest old new m =
-    omega (arith, ap length m.parted, length-append m.front rest)
+pub marked_on : (walk mid rest : List Voxel) (old bs new : List Brick) → AreMarked walk mid old bs
+    → AreMarked mid rest bs new → AreMarked walk rest old new
+marked_on walk mid rest old bs new m n = record {
+  taken = taken_on walk mid rest (in_all old) (in_all bs) (in_all new) m.taken n.taken;
+  hits = stays_so (hit_in old) (hit_in bs) (hit_in new) m.hits n.hits;
+  bricks = n.bricks;
+}
+
+pub pushed_on : (walk mid rest : List Voxel) (old bs new : List Brick) (b bm b' : Brick)
+    → ArePushed walk mid old b bs bm → ArePushed mid rest bs bm new b'
+    → ArePushed walk rest old b new b'
+pushed_on walk mid rest old bs new b bm b' m n = record {
+  taken = taken_on walk mid rest (IsHeld old b) (IsHeld bs bm) (IsHeld new b') m.taken n.taken;
+  hits = stays_so (hit_in old) (hit_in bs) (hit_in new) m.hits n.hits;
+  bricks = n.bricks;
+  current = n.current;
+}
 
 -- fewer are left then
 pub pair_shortens : (old new : List Voxel) (first second : ℕ) → HasGivenPair old new first second
@@ -229,39 +306,58 @@ left_one [] some few = absurd (some refl)
 left_one (k ∷ []) some few = (k, refl)
 left_one (k ∷ l ∷ ks) some few = absurd (omega (arith, few))
 
--- where one voxel is left at most, the whole way was added
-pub marked_all : (walk rest : List Voxel) (old new : List Brick) → AreMarked walk rest old new
+-- where one voxel is left at most, all but that of the end have come
+taken_all : (walk rest : List Voxel) (P Q : ℕ → Type 0) → AreTaken walk rest P Q
     → length rest ≤ 1 → (end : Voxel) → IsInMap end → EndsAt end walk
-    → IsWayAdded None (morton_of end) walk old new
-marked_all walk rest old new m few end on_map ends =
+    → (c : ℕ) → Q c ↔ (P c ⊎ (Contains (map morton_of walk) c × (morton_of end ≢ c)))
+taken_all walk rest P Q m few end on_map ends =
     let some : walk ≢ [] = λ none. subst (EndsAt end) none ends in
     let (k, one) = left_one rest (m.some some) few in
     let whole = m.parted ∙ ap (λ (ks : List Voxel). m.front ++ ks) one in
     let apart = ends_apart m.front end k (subst (EndsAt end) whole ends) in
     let all = sym (ap (map morton_of) whole) in
-    record {
-      scanned = λ c. (
-        λ h. elim ((m.scanned c).0 h) [
-          | inl p ↦ inl p
-          | inr p ↦ let r = contains_from_map morton_of m.front c p in inr (
-            subst (λ (cs : List ℕ). Contains cs c) all
-                ((code_more m.front k c).1 (inl p)),
-            λ e. apart.1 r.0 r.1 (morton_injective r.0 end
-                (All-contains IsInMap m.front r.0 m.on_map r.1) on_map (r.2 ∙ sym e)),
-          )
-        ],
-        λ h. (m.scanned c).1 (elim h [
-          | inl p ↦ inl p
-          | inr p ↦ elim ((code_more m.front k c).0
-              (subst (λ (cs : List ℕ). Contains cs c) (sym all) p.0)) [
-                | inl q ↦ inr q
-                | inr e ↦ absurd (p.1 (sym (ap morton_of apart.0) ∙ e))
-              ]
-        ]),
-      );
-      hits = m.hits;
-      bricks = m.bricks;
-    }
+    λ c. (
+      λ h. elim ((m.codes c).0 h) [
+        | inl p ↦ inl p
+        | inr p ↦ let r = contains_from_map morton_of m.front c p in inr (
+          subst (λ (cs : List ℕ). Contains cs c) all ((code_more m.front k c).1 (inl p)),
+          λ e. apart.1 r.0 r.1 (morton_injective r.0 end
+              (All-contains IsInMap m.front r.0 m.on_map r.1) on_map (r.2 ∙ sym e)),
+        )
+      ],
+      λ h. (m.codes c).1 (elim h [
+        | inl p ↦ inl p
+        | inr p ↦ elim ((code_more m.front k c).0
+            (subst (λ (cs : List ℕ). Contains cs c) (sym all) p.0)) [
+              | inl q ↦ inr q
+              | inr e ↦ absurd (p.1 (sym (ap morton_of apart.0) ∙ e))
+            ]
+      ]),
+    )
+
+pub marked_all : (walk rest : List Voxel) (old new : List Brick) → AreMarked walk rest old new
+    → length rest ≤ 1 → (end : Voxel) → IsInMap end → EndsAt end walk
+    → IsWayAdded None (morton_of end) walk old new
+marked_all walk rest old new m few end on_map ends = record {
+  scanned = taken_all walk rest (in_all old) (in_all new) m.taken few end on_map ends;
+  hits = m.hits;
+  bricks = m.bricks;
+}
+
+-- and where the current brick was added, too
+pub pushed_all : (walk rest : List Voxel) (old bs new : List Brick) (b bm : Brick)
+    → ArePushed walk rest old b bs bm → length rest ≤ 1
+    → ((c : ℕ) → Contains (scanned_codes new) c ↔ IsHeld bs bm c)
+    → ((c : ℕ) → Contains (hit_codes new) c ↔ Contains (hit_codes bs) c) → All IsBrick new
+    → (end : Voxel) → IsInMap end → EndsAt end walk
+    → IsRestAdded None (morton_of end) walk b old new
+pushed_all walk rest old bs new b bm m few last hits bricks end on_map ends = record {
+  scanned = λ c.
+      let all = taken_all walk rest (IsHeld old b) (IsHeld bs bm) m.taken few end on_map ends c in
+      (λ h. all.0 ((last c).0 h), λ h. (last c).1 (all.1 h));
+  hits = stays_so (hit_in old) (hit_in bs) (hit_in new) m.hits hits;
+  bricks = bricks;
+}
 
 -- the elements of a vector whose slice was written whole
 pub kept_items : (n : ℕ) (xs rest : List Brick) → length xs ≡ n → take n (xs ++ rest) ≡ xs
