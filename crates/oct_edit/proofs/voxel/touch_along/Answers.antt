@@ -57,7 +57,8 @@ returns c =
         takes = λ full. false≢true (c.if-is_saturated.ensures.saturated.1
             (subst (IsSaturated c.args.tree.now.odds c.args.edit.event) (sym same) full));
         touched = subst (λ u. IsTouched c.args.tree.now u (block_of 0 c.args.edit.k)
-            (event_at (Some c.args.edit.k) c.args.edit.event) c.args.edit.lazy) (sym c.note_eager.ensures)
+            (event_at (Some c.args.edit.k) c.args.edit.event) c.args.edit.lazy) (sym
+            c.note_eager.ensures)
             c.touch.ensures.touched;
         spare = (let before = c.touch.ensures.spare in
             let kept = ap (λ u. spare u.groups) c.note_eager.ensures in

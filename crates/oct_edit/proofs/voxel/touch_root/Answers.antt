@@ -43,9 +43,11 @@ pub note_eager-requires : goal.note_eager-requires
 note_eager-requires c eager =
     let v : IsInMap c.args.edit.k = search rules in
     let whole =
-    at_root c.args.tree.now c.touch_under.new.tree c.args.edit.k c.args.edit.event c.args.edit.lazy v
+    at_root c.args.tree.now c.touch_under.new.tree c.args.edit.k c.args.edit.event c.args.edit.lazy
+    v
     c.touch_under.ensures.touched in
-    whole_known c.args.tree.now c.touch_under.new.tree (event_at (Some c.args.edit.k) c.args.edit.event)
+    whole_known c.args.tree.now c.touch_under.new.tree (event_at (Some c.args.edit.k)
+    c.args.edit.event)
     c.args.edit.lazy c.tidiness-known.result whole eager c.tidiness-known.ensures.so
 
 pub returns-then-is_saturated : goal.returns-then-is_saturated
@@ -74,7 +76,8 @@ returns c =
         takes = λ full. false≢true (c.if-is_saturated.ensures.saturated.1
             (subst (IsSaturated c.args.tree.now.odds c.args.edit.event) (sym same) full));
         touched = subst (λ u. IsTouched c.args.tree.now u (block_of 0 c.args.edit.k)
-            (event_at (Some c.args.edit.k) c.args.edit.event) c.args.edit.lazy) (sym c.note_eager.ensures)
+            (event_at (Some c.args.edit.k) c.args.edit.event) c.args.edit.lazy) (sym
+            c.note_eager.ensures)
             c.touch_under.ensures.touched;
         spare = (let before = c.touch_under.ensures.spare in
             let kept = ap (λ u. spare u.groups) c.note_eager.ensures in

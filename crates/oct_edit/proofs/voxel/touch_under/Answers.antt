@@ -49,8 +49,10 @@ pub split_to-id-requires-clause-room : goal.split_to-id-requires-clause-room
 split_to-id-requires-clause-room c =
     let low = c.loop-level.invariant.low in
     let here =
-    room_here c.args.tree.now c.args.end.p c.args.end.depth c.args.edit.k c.requires.linked c.requires.end.place
-    c.requires.end.block (omega (arith, low, c.loop-level-test.true)) c.requires.taken.voxel c.requires.room
+    room_here c.args.tree.now c.args.end.p c.args.end.depth c.args.edit.k c.requires.linked
+    c.requires.end.place
+    c.requires.end.block (omega (arith, low, c.loop-level-test.true)) c.requires.taken.voxel
+    c.requires.room
     c.requires.end.plain in
     let count = c.loop-level.invariant.chain.spare in
     omega (arith, here, count, c.loop-level-test.true)
@@ -63,16 +65,19 @@ loop-level-preserved c =
       low = omega (arith, low);
       high = omega (arith, c.loop-level-test.true);
       chain = chain_more c.args.tree.now c.loop-level.tree c.split_to-id.new.self c.args.edit.k
-          c.args.edit.event c.args.edit.lazy (node_in c.args.tree.now c.args.end.p) _ c.args.end.depth
+          c.args.edit.event c.args.edit.lazy (node_in c.args.tree.now c.args.end.p) _
+          c.args.end.depth
           c.loop-level.q c.loop-level.level c.child_of_code.result c.split_to-id.result
-          c.loop-level.invariant.chain (omega (arith, c.loop-level-test.true)) c.requires.taken.voxel
+          c.loop-level.invariant.chain (omega (arith, c.loop-level-test.true))
+          c.requires.taken.voxel
           c.requires.end.plain
           (λ is. to_z-of_z w32 c.value_over-over.result fits ∙ c.value_over-over.ensures.lazily is
           ∙ ap inherited_from (c.value-value.ensures.exact ∙ ap value_of c.requires.end.node)
           ∙ plain_inherited (node_in c.args.tree.now c.args.end.p) c.requires.end.plain)
           c.requires.taken.takes (omega (arith, c.child_of_code.ensures.few))
           (block_step c.loop-level.level c.args.edit.k c.loop-level-test.true
-          ∙ ap (child_of (block_of c.loop-level.level c.args.edit.k)) (sym (c.child_of_code.ensures.exact
+          ∙ ap (child_of (block_of c.loop-level.level c.args.edit.k)) (sym
+          (c.child_of_code.ensures.exact
           ∙ c.morton-code.ensures.child c.loop-level.level
           (omega (arith, c.loop-level-test.true)))))
           c.split_to-id.ensures.split c.split_to-id.ensures.values
@@ -103,7 +108,8 @@ last c =
     let read = c.value-value.ensures.exact ∙ ap value_of c.requires.end.node in
     subst (λ v. IsLast (node_in c.args.tree.now c.args.end.p) c.leaf.result v c.args.edit.lazy)
     (sym (to_z-of_z w32 c.value_over-over.result fits))
-    (leaf_last (node_in c.args.tree.now c.args.end.p) c.leaf.result c.value_over-over.result c.args.edit.lazy
+    (leaf_last (node_in c.args.tree.now c.args.end.p) c.leaf.result c.value_over-over.result
+    c.args.edit.lazy
     c.requires.end.plain c.leaf.ensures.plain
     (λ left. c.if-leaves_block.ensures.only
     (subst (λ a. LeavesBlock a c.apply-new.result c.args.edit.lazy) (sym read)
@@ -116,7 +122,8 @@ last c =
 pub returns-clause-touched : goal.returns-clause-touched
 returns-clause-touched c =
     let high = c.loop-level.invariant.high in
-    chain_ended c.args.tree.now c.loop-level.tree c.set_place.new.self c.args.edit.k c.args.edit.event
+    chain_ended c.args.tree.now c.loop-level.tree c.set_place.new.self c.args.edit.k
+    c.args.edit.event
     c.args.edit.lazy (node_in c.args.tree.now c.args.end.p) _ c.args.end.depth c.loop-level.q
     c.loop-level.level c.leaf.result c.loop-level.invariant.chain
     (omega (arith, high, c.loop-level-test.false)) c.requires.taken.voxel c.set_place.ensures.linked
@@ -135,8 +142,10 @@ returns-clause-spare c =
 
 pub returns-then-leaves_block-clause-touched : goal.returns-then-leaves_block-clause-touched
 returns-then-leaves_block-clause-touched c =
-    leaf_kept c.args.tree.now c.args.end.p c.args.end.depth c.args.edit.k c.args.edit.event c.args.edit.lazy
-    c.requires.linked c.requires.end.place c.requires.end.block c.requires.end.depth c.requires.taken.voxel
+    leaf_kept c.args.tree.now c.args.end.p c.args.end.depth c.args.edit.k c.args.edit.event
+    c.args.edit.lazy
+    c.requires.linked c.requires.end.place c.requires.end.block c.requires.end.depth
+    c.requires.taken.voxel
     c.requires.end.plain
     (sym (made_of _ c.args.tree.now.odds c.args.edit.event c.value-value.result c.apply-new.result
     (node_in c.args.tree.now c.args.end.p) c.apply-new.ensures.exact c.odds.ensures

@@ -7,7 +7,8 @@ abbrev pub invariant-loop-level : goal.invariant-loop-level
 invariant-loop-level l = record {
   low : l.fn.end.depth ≤ l.level;
   high : l.level ≤ 16;
-  chain : IsChain l.fn.tree l.tree l.fn.edit.k l.fn.edit.event l.fn.edit.lazy (node_in l.fn.tree l.fn.end.p) l.over
+  chain : IsChain l.fn.tree l.tree l.fn.edit.k l.fn.edit.event l.fn.edit.lazy (node_in l.fn.tree
+      l.fn.end.p) l.over
       l.fn.end.depth l.q l.level;
 }
 

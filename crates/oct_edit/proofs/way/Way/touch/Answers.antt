@@ -85,8 +85,10 @@ loop-depth-preserved c =
       low = (let low = c.loop-depth.invariant.low in omega arith);
       touched =
           climbed_above c.args.tree.now c.loop-depth.tree c.close_over-now.new.tree c.args.edit.k
-          c.args.self.now.groups c.args.self.now.depth c.loop-depth.depth c.args.edit.event c.args.edit.lazy
-          c.requires.linked v w c.loop-depth-test.true c.loop-depth.invariant.low c.requires.taken.takes
+          c.args.self.now.groups c.args.self.now.depth c.loop-depth.depth c.args.edit.event
+          c.args.edit.lazy
+          c.requires.linked v w c.loop-depth-test.true c.loop-depth.invariant.low
+          c.requires.taken.takes
           c.loop-depth.invariant.touched f;
       before = c.node-over.ensures.exact ∙ ap (node_in c.loop-depth.tree) c.place-q.ensures
           ∙ b.node;
@@ -109,25 +111,30 @@ returns-then-keeps_greatest-clause-touched c =
     c.requires.linked w
     c.loop-depth-test.true c.loop-depth.invariant.low c.loop-depth.invariant.touched in
     let over : c.node-over.result
-    ≡ node_in c.args.tree.now (place_on c.args.edit.k c.args.self.now.groups (c.loop-depth.depth - 1)) =
+    ≡ node_in c.args.tree.now (place_on c.args.edit.k c.args.self.now.groups (c.loop-depth.depth -
+    1)) =
     c.node-over.ensures.exact ∙ ap (node_in c.loop-depth.tree) c.place-q.ensures ∙ b.node in
     let keeps = c.keeps_greatest.ensures c.if-keeps_greatest.true in
     done_above c.args.tree.now c.loop-depth.tree c.args.edit.k c.args.self.now.groups
-    c.args.self.now.depth (c.loop-depth.depth - 1) c.args.edit.event c.args.edit.lazy known.0 known.1 v w
+    c.args.self.now.depth (c.loop-depth.depth - 1) c.args.edit.event c.args.edit.lazy known.0
+    known.1 v w
     (omega arith) c.requires.taken.takes
     (subst (λ n. IsTouched c.args.tree.now c.loop-depth.tree (block_of n c.args.edit.k)
     (event_at (Some c.args.edit.k) c.args.edit.event) c.args.edit.lazy) (sym more)
     c.loop-depth.invariant.touched)
     (subst (λ n. KeepsGreatest
-    (node_in c.args.tree.now (place_on c.args.edit.k c.args.self.now.groups (c.loop-depth.depth - 1)))
+    (node_in c.args.tree.now (place_on c.args.edit.k c.args.self.now.groups (c.loop-depth.depth -
+    1)))
     (node_in c.args.tree.now (place_on c.args.edit.k c.args.self.now.groups n))
     (node_in c.loop-depth.tree (place_on c.args.edit.k c.args.self.now.groups n))) (sym more)
     (subst (λ n. KeepsGreatest
-    (node_in c.args.tree.now (place_on c.args.edit.k c.args.self.now.groups (c.loop-depth.depth - 1)))
+    (node_in c.args.tree.now (place_on c.args.edit.k c.args.self.now.groups (c.loop-depth.depth -
+    1)))
     (node_in c.args.tree.now (place_on c.args.edit.k c.args.self.now.groups c.loop-depth.depth)) n)
     c.loop-depth.invariant.now
     (subst (λ n. KeepsGreatest
-    (node_in c.args.tree.now (place_on c.args.edit.k c.args.self.now.groups (c.loop-depth.depth - 1))) n
+    (node_in c.args.tree.now (place_on c.args.edit.k c.args.self.now.groups (c.loop-depth.depth -
+    1))) n
     c.loop-depth.now)
     c.loop-depth.invariant.before
     (subst (λ n. KeepsGreatest n c.loop-depth.before c.loop-depth.now) over keeps))))

@@ -10,7 +10,8 @@ use Rattle.oct_edit.proofs.way.Way.touch.Given as goal
 abbrev pub invariant-loop-depth : goal.invariant-loop-depth
 invariant-loop-depth l = record {
   low : l.depth ≤ l.self.depth;
-  touched : IsTouched l.fn.tree l.tree (block_of l.depth l.fn.edit.k) (event_at (Some l.fn.edit.k) l.fn.edit.event)
+  touched : IsTouched l.fn.tree l.tree (block_of l.depth l.fn.edit.k) (event_at (Some l.fn.edit.k)
+      l.fn.edit.event)
       l.fn.edit.lazy;
   before : l.before ≡ node_in l.fn.tree (place_on l.fn.edit.k l.self.groups l.depth);
   now : l.now ≡ node_in l.tree (place_on l.fn.edit.k l.self.groups l.depth);
