@@ -1,306 +1,305 @@
--- The edit of a box on its way through the children of a block.
-use Rattle.std.proofs.Common.{◌≡◌, ℕ, suc, ◌+◌, ◌-◌, ◌<◌, ◌≤◌, Bool, true, false, cond, inl, inr}
-use Rattle.std.proofs.Common.{sym, subst, ◌∙◌, ap, arith, refl, Some, None}
-use Rattle.std.specs.Prelude.{Option, is_some, IsTrue, ◌↔◌, ◌≤ℤ◌, sum_by, count_by}
+-- An event on the voxels of an area: which blocks it meets, and what it does where nothing or all
+-- of a block is in it.
+use Rattle.std.proofs.Common.{◌≡◌, ℕ, ◌≤◌, Bool, true, false, cond, inl, inr, sym, subst}
+use Rattle.std.proofs.Common.{◌∙◌, ap, arith, refl, Some, None}
+use Rattle.std.specs.Prelude.{Option, is_some, IsTrue, ◌↔◌, ◌≤ℤ◌, ◌⊎◌, not}
+use Rattle.std.specs.List.{list_any}
 use Rattle.std.proofs.lemmas.Bool.{false≢true, cases_lt}
-use Rattle.oct_key.specs.Voxel.{Voxel, IsInMap}
-use Rattle.oct_key.specs.Block.{Cube, IsBlock, HoldsVoxel, child_of, child_index_of, root_block}
-use Rattle.oct_key.specs.Block.{block_of}
-use Rattle.oct_key.proofs.Blocks.{depth_child_of, child_holds, root_holds}
-use Rattle.oct_odds.specs.declared.event.Event.{Event}
-use Rattle.oct_values.specs.Blocks.{blocks_below}
-use Rattle.oct_key.specs.Boxes.{IsInBox, IsBox, is_in_box, MeetsBox, LiesInBox}
-use Rattle.oct_values.specs.Boxes.{is_cut_by, box_events, box_need}
+use Rattle.oct_key.specs.Voxel.{Voxel}
+use Rattle.oct_key.specs.Block.{Cube, IsBlock, HoldsVoxel, lowest_voxel, block_of}
+use Rattle.oct_key.specs.Boxes.{IsInBox, is_in_box, MeetsBox, LiesInBox}
+use Rattle.oct_key.proofs.Blocks.{lowest_held, lowest_in_map}
 use Rattle.oct_key.proofs.Boxes.{in_box_exactly}
-use Rattle.oct_values.proofs.Boxes.{cut_exactly}
 use Rattle.oct_key.proofs.Held.{held_in_map, only_voxel}
-use Rattle.oct_values.proofs.Eights.{same_eight}
-use Rattle.oct_values.proofs.Listed.{sum_of_blocks}
-use Rattle.oct_arena.specs.declared.node.GroupId.{GroupId}
-use Rattle.oct_arena.specs.Entries.{live, spare}
-use Rattle.oct_tree.specs.declared.place.Place.{Place}
-use Rattle.oct_tree.specs.declared.place.Place.TheVariants.{Slot}
+use Rattle.oct_odds.specs.Odds.{Odds}
+use Rattle.oct_odds.specs.declared.event.Event.{Event}
+use Rattle.oct_odds.specs.declared.event.Event.TheVariants.{Add, Set, Forget, Likely}
+use Rattle.oct_values.specs.Blocks.{voxels_of}
+use Rattle.oct_values.specs.Boxes.{is_cut_by}
+use Rattle.oct_values.specs.Events.{after_event}
+use Rattle.oct_values.proofs.Boxes.{cut_exactly}
+use Rattle.oct_values.proofs.Held.{some_passes, one_passes}
 use Rattle.oct_arena.specs.Nodes.{link_of, value_of}
+use Rattle.oct_arena.specs.declared.node.Node.{Node}
+use Rattle.oct_arena.specs.declared.node.Node.TheVariants.{Absent, Leaf, Inner}
+use Rattle.oct_tree.specs.declared.place.Place.{Place}
 use Rattle.oct_tree.specs.Tree.{Tree, IsLinked, IsPlace, node_in, block_in}
-use Rattle.oct_tree.proofs.Paths.{slot_place, slot_block, some_injective}
-use Rattle.oct_edit.specs.Steps.{Reaches, IsTouched, IsEntered, IsClosed}
-use Rattle.oct_edit.specs.Areas.{cut_in}
+use Rattle.oct_tree.proofs.Paths.{some_injective, place_reached}
+use Rattle.oct_edit.specs.Areas.{is_in_part, is_in_area, area_events, MeetsArea, LiesInArea}
+use Rattle.oct_edit.specs.Areas.{IsUnmoved, is_split_by, splits_at}
 use Rattle.oct_edit.specs.Saturated.{IsSaturated}
+use Rattle.oct_edit.specs.Steps.{Reaches, IsTouched}
+use Rattle.oct_edit.specs.declared.area.Area.{Area}
 use Rattle.oct_edit.proofs.Joins.{TakesIn}
-use Rattle.oct_edit.proofs.UpdateEnds.{covered, known_plain, saturated_known, still_touched}
-use Rattle.oct_values.proofs.Axes.{sum_below, sum_below_next}
-use Rattle.oct_edit.proofs.UnderWay.{IsTouchedBelow}
-use Rattle.oct_edit.proofs.Voxels.{voxel_plain}
+use Rattle.oct_edit.proofs.UpdateEnds.{covered, known_plain, saturated_known, idle_touched}
+use Rattle.oct_edit.proofs.UpdateEnds.{still_touched}
 use Rattle.oct_edit.proofs.Insides.{around}
-use Rattle.oct_edit.proofs.Rounds.{round_start, round_skip, round_step, round_end}
-use Rattle.oct_edit.proofs.Needs.{sum_below_le, sum_below_eight}
-use Rattle.oct_edit.proofs.Wholes.{same_total}
+use Rattle.oct_edit.proofs.Voxels.{voxel_plain}
 
--- of the block under a place, the event on the voxels of a box was
--- done within the children below one
-pub record IsAreaUnderWay (s w : Tree) (p : Place) (b : Cube) (lo hi : Voxel) (event : Event)
-    (i : ℕ) : Type 0 where
-  pub done : IsTouchedBelow s w p b i (box_events lo hi event) false
-  pub room : spare s.groups ≤ spare w.groups + sum_below (λ j. cut_in lo hi (child_of b j)) i
+-- a test passes, or it fails
+pub passes_or_not : (test : Bool) → (test ≡ true) ⊎ (test ≡ false)
+passes_or_not true = inl refl
+passes_or_not false = inr refl
 
--- a voxel of the box has the event, and another one none
-pub event_in_box : (lo hi : Voxel) (event : Event) (k : Voxel) → IsInBox lo hi k
-    → box_events lo hi event k ≡ Some event
-event_in_box lo hi event k h =
-    (let test : is_in_box lo hi k ≡ true = (in_box_exactly lo hi k).1 h in rw test refl)
+clash : (test : Bool) → test ≡ true → test ≡ false → ⊥
+clash test e f = false≢true (sym f ∙ e)
 
-pub no_event_outside : (lo hi : Voxel) (event : Event) (k : Voxel) → (IsInBox lo hi k → ⊥)
-    → box_events lo hi event k ≡ None
-no_event_outside lo hi event k out = by_test (is_in_box lo hi k) refl
+-- which voxels lie outside of a box
+pub outside_exactly : (lo hi k : Voxel) → (not (is_in_box lo hi k) ≡ true) ↔ (IsInBox lo hi k → ⊥)
+outside_exactly lo hi k = (
+  λ h inside. by_test (is_in_box lo hi k) h ((in_box_exactly lo hi k).1 inside),
+  λ out. by_case (is_in_box lo hi k) (λ e. out ((in_box_exactly lo hi k).0 e)),
+)
   where
-    by_test : (test : Bool) → is_in_box lo hi k ≡ test → cond test (Some event) None ≡ None
-    by_test true e = absurd (out ((in_box_exactly lo hi k).0 e))
-    by_test false e = refl
+    by_test : (test : Bool) → not test ≡ true → test ≡ true → ⊥
+    by_test true h e = false≢true h
+    by_test false h e = false≢true e
 
--- a block that meets the box is reached
-pub box_reaches : (lo hi : Voxel) (event : Event) (b : Cube) → IsBlock b → MeetsBox lo hi b
-    → Reaches (box_events lo hi event) b b
-box_reaches lo hi event b ok (k, held, inside) = record {
-  voxel = k;
-  in_map = held_in_map b k ok held;
-  here = held;
-  there = held;
-  event = ap is_some (event_in_box lo hi event k inside);
-}
+    by_case : (test : Bool) → (test ≡ true → ⊥) → not test ≡ true
+    by_case true out = absurd (out refl)
+    by_case false out = refl
 
--- the root does
-pub root_meets : (lo hi : Voxel) → IsInMap lo → IsBox lo hi → MeetsBox lo hi root_block
-root_meets lo hi v box = (
-  lo,
-  root_holds lo v,
-  record {
-    x = (omega arith, box.x);
-    y = (omega arith, box.y);
-    z = (omega arith, box.z);
-  },
+-- a block meets what is outside of a box where it doesn't lie in the box, and lies in it where it
+-- doesn't meet the box
+pub meets_outside : (lo hi : Voxel) (b : Cube) → IsBlock b
+    → ((k : Voxel) × HoldsVoxel b k × IsTrue (not (is_in_box lo hi k))) ↔ (LiesInBox lo hi b → ⊥)
+meets_outside lo hi b ok = (
+  λ (k, held, out) lies. (outside_exactly lo hi k).0 out (lies k held),
+  λ some. by_test (list_any (λ k. not (is_in_box lo hi k)) (voxels_of b)) refl some,
+)
+  where
+    inside : (k : Voxel) → (not (is_in_box lo hi k) ≡ true → ⊥) → IsInBox lo hi k
+    inside k never = elim (passes_or_not (is_in_box lo hi k)) [
+      | inl is ↦ (in_box_exactly lo hi k).0 is
+      | inr none ↦ absurd (never (ap not none))
+    ]
+
+    by_test : (test : Bool) → list_any (λ k. not (is_in_box lo hi k)) (voxels_of b) ≡ test
+        → (LiesInBox lo hi b → ⊥) → (k : Voxel) × HoldsVoxel b k × IsTrue (not (is_in_box lo hi k))
+    by_test true e some = one_passes (λ k. not (is_in_box lo hi k)) b ok e
+    by_test false e some =
+        absurd (some (λ k held. inside k
+        (λ out. clash _ (some_passes (λ k. not (is_in_box lo hi k)) b k ok held out) e)))
+
+pub lies_outside : (lo hi : Voxel) (b : Cube)
+    → ((k : Voxel) → HoldsVoxel b k → IsTrue (not (is_in_box lo hi k))) ↔ (MeetsBox lo hi b → ⊥)
+lies_outside lo hi b = (
+  λ lies (k, held, inside). (outside_exactly lo hi k).0 (lies k held) inside,
+  λ apart k held. (outside_exactly lo hi k).1 (λ inside. apart (k, held, inside)),
 )
 
--- the blocks that are cut in a block: itself, if it is one, and those in its children
-pub cuts_of_children : (lo hi : Voxel) (b : Cube) → b.depth ≤ 15
-    → cut_in lo hi b ≡ cond (is_cut_by lo hi b) 1 0 + sum_below (λ i. cut_in lo hi (child_of b i)) 8
-cuts_of_children lo hi b low =
-    let level : 16 - b.depth ≡ suc (15 - b.depth) = omega arith in
-    let whole : cut_in lo hi b
-    ≡ sum_by (λ q. cond {A = ℕ} (is_cut_by lo hi q) 1 0) (blocks_below (suc (15 - b.depth)) b) =
-    ap (λ n. count_by (is_cut_by lo hi) (blocks_below n b)) level in
-    let split = sum_of_blocks (λ q. cond {A = ℕ} (is_cut_by lo hi q) 1 0) (15 - b.depth) b in
-    let each =
-    same_eight
-    (λ i. sum_by (λ q. cond {A = ℕ} (is_cut_by lo hi q) 1 0)
-    (blocks_below (15 - b.depth) (child_of b i)))
-    (λ i. cut_in lo hi (child_of b i))
-    (λ i li. ap (λ n. count_by (is_cut_by lo hi) (blocks_below n (child_of b i)))
-    (child_level i)) in
-    let eight = sum_below_eight (λ i. cut_in lo hi (child_of b i)) in
-    omega (arith, whole, split, each, eight)
-  where
-    child_level : (i : ℕ) → 15 - b.depth ≡ 16 - (child_of b i).depth
-    child_level i = (let deep = depth_child_of b i in omega (arith, deep))
+-- the same for the box itself
+pub meets_inside : (lo hi : Voxel) (b : Cube)
+    → ((k : Voxel) × HoldsVoxel b k × IsTrue (is_in_box lo hi k)) ↔ MeetsBox lo hi b
+meets_inside lo hi b = (
+  λ (k, held, is). (k, held, (in_box_exactly lo hi k).0 is),
+  λ (k, held, inside). (k, held, (in_box_exactly lo hi k).1 inside),
+)
 
--- a place whose block meets the box, and that isn't written as a whole, is no voxel
-pub part_low : (t : Tree) (p : Place) (b : Cube) (lo hi : Voxel) (whole : Bool) → IsLinked t
-    → IsBlock b → block_in t p ≡ Some b → MeetsBox lo hi b → whole ≡ false
-    → IsTrue whole ↔ ((link_of (node_in t p) ≡ None) × LiesInBox lo hi b) → b.depth ≤ 15
-part_low t p b lo hi whole l ok e (k, held, inside) not_whole is = elim (cases_lt b.depth 16) [
-  | inl less ↦ omega (arith, less)
-  | inr more ↦ (let top = ok.depth in
-      let deep : b.depth ≡ 16 = omega (arith, more, top) in
-      let here : b ≡ block_of 16 k = around b k held ∙ ap (λ d. block_of d k) deep in
-      let plain = voxel_plain t p k l (e ∙ ap Some here) in
-      let one : LiesInBox lo hi b =
-      λ q h. subst (IsInBox lo hi) (only_voxel b k deep held ∙ sym (only_voxel b q deep h))
-      inside in
-      absurd (false≢true (sym not_whole ∙ is.1 (plain, one))))
-]
+pub lies_inside : (lo hi : Voxel) (b : Cube)
+    → ((k : Voxel) → HoldsVoxel b k → IsTrue (is_in_box lo hi k)) ↔ LiesInBox lo hi b
+lies_inside lo hi b = (
+  λ lies k held. (in_box_exactly lo hi k).0 (lies k held),
+  λ lies k held. (in_box_exactly lo hi k).1 (lies k held),
+)
 
--- and where it links nothing, it is cut
-pub part_cut : (t : Tree) (p : Place) (b : Cube) (lo hi : Voxel) (whole : Bool) → IsBlock b
-    → MeetsBox lo hi b → whole ≡ false
-    → IsTrue whole ↔ ((link_of (node_in t p) ≡ None) × LiesInBox lo hi b)
-    → link_of (node_in t p) ≡ None → cond {A = ℕ} (is_cut_by lo hi b) 1 0 ≡ 1
-part_cut t p b lo hi whole ok meets not_whole is plain =
-    let cut : is_cut_by lo hi b ≡ true =
-    (cut_exactly lo hi b ok).1 (meets, λ lies. false≢true (sym not_whole ∙ is.1 (plain, lies))) in
-    rw cut refl
+-- what a test of the box says of an area
+denied : (test : Bool) → (not test ≡ true) ↔ (test ≡ true → ⊥)
+denied true = (λ h. absurd (false≢true h), λ h. absurd (h refl))
+denied false = (λ h e. false≢true e, λ h. refl)
 
--- so there is a group for it
-pub part_room : (t : Tree) (p : Place) (b : Cube) (lo hi : Voxel) (whole : Bool) → IsBlock b
-    → b.depth ≤ 15 → MeetsBox lo hi b → whole ≡ false
-    → IsTrue whole ↔ ((link_of (node_in t p) ≡ None) × LiesInBox lo hi b)
-    → cut_in lo hi b ≤ spare t.groups → link_of (node_in t p) ≡ None → 1 ≤ spare t.groups
-part_room t p b lo hi whole ok low meets not_whole is room plain =
-    let cut = part_cut t p b lo hi whole ok meets not_whole is plain in
-    let all = cuts_of_children lo hi b low in
-    omega (arith, cut, all, room)
-
--- entering it takes no more groups than are counted for it
-pub part_entered : (t s : Tree) (p : Place) (b : Cube) (id : GroupId) (lo hi : Voxel) (whole : Bool)
-    → IsBlock b → MeetsBox lo hi b → whole ≡ false
-    → IsTrue whole ↔ ((link_of (node_in t p) ≡ None) × LiesInBox lo hi b) → IsEntered t s p b id
-    → spare t.groups ≤ spare s.groups + cond {A = ℕ} (is_cut_by lo hi b) 1 0
-part_entered t s p b id lo hi whole ok meets not_whole is e = elim e.spare [
-  | inl same ↦ omega (arith, same)
-  | inr (plain, less) ↦ (let cut = part_cut t p b lo hi whole ok meets not_whole is plain in
-      omega (arith, cut, less))
-]
-
--- no child is done
-pub area_start : (t s : Tree) (p : Place) (b : Cube) (id : GroupId) (lo hi : Voxel) (event : Event)
-    → IsEntered t s p b id → IsAreaUnderWay s s p b lo hi event 0
-area_start t s p b id lo hi event e = record {
-  done = round_start s p b (box_events lo hi event) false e.linked e.place e.block;
-  room = omega arith;
-}
-
--- the slot of a child is a place, of the child's block
-pub area_place : (t s w : Tree) (p : Place) (b : Cube) (id : GroupId) (i j : ℕ) (lo hi : Voxel)
-    (event : Event)
-    → i < 8 → IsEntered t s p b id → IsAreaUnderWay s w p b lo hi event j
-    → IsPlace w (Slot id i) × (block_in w (Slot id i) ≡ Some (child_of b i))
-area_place t s w p b id i j lo hi event few e way =
-    let (v, link) = e.link in
-    let linked : link_of (node_in w p) ≡ Some id.number = ap link_of (way.done.node ∙ link) in (
-      slot_place w way.done.linked p way.done.place id i linked few,
-      slot_block w way.done.linked p id i b linked way.done.block,
+pub outside_meets : (area : Area) (b : Cube) (covered : Bool) → IsBlock b → area.outside ≡ true
+    → IsTrue covered ↔ LiesInBox area.window.lo area.window.hi b
+    → IsTrue (not covered) ↔ MeetsArea area b
+outside_meets area b covered ok is covers =
+    let meets = meets_outside area.window.lo area.window.hi b ok in
+    subst (λ o. IsTrue (not covered) ↔ ((k : Voxel) × HoldsVoxel b k
+    × IsTrue (is_in_part o area.window.lo area.window.hi k))) (sym is) (
+      λ h. meets.1 (λ lies. (denied covered).0 h (covers.1 lies)),
+      λ m. (denied covered).1 (λ e. meets.0 m (covers.0 e)),
     )
 
--- there is room for what the next child needs
-pub area_room : (t s w : Tree) (p : Place) (b : Cube) (i : ℕ) (lo hi : Voxel) (event : Event)
-    → b.depth ≤ 15 → i < 8 → cut_in lo hi b ≤ spare t.groups
-    → spare t.groups ≤ spare s.groups + cond {A = ℕ} (is_cut_by lo hi b) 1 0
-    → IsAreaUnderWay s w p b lo hi event i → cut_in lo hi (child_of b i) ≤ spare w.groups
-area_room t s w p b i lo hi event low few room entered way =
-    let all = cuts_of_children lo hi b low in
-    let here = sum_below_next (λ j. cut_in lo hi (child_of b j)) i in
-    let rest = sum_below_le (λ j. cut_in lo hi (child_of b j)) (i + 1) 8 (omega arith) in
-    let before = way.room in
-    omega (arith, all, here, rest, before, room, entered)
+pub outside_covers : (area : Area) (b : Cube) (met : Bool) → area.outside ≡ true
+    → IsTrue met ↔ MeetsBox area.window.lo area.window.hi b
+    → IsTrue (not met) ↔ LiesInArea area b
+outside_covers area b met is meets =
+    let lies = lies_outside area.window.lo area.window.hi b in
+    subst (λ o. IsTrue (not met) ↔ ((k : Voxel) → HoldsVoxel b k
+    → IsTrue (is_in_part o area.window.lo area.window.hi k))) (sym is) (
+      λ h. lies.1 (λ m. (denied met).0 h (meets.1 m)),
+      λ all. (denied met).1 (λ e. lies.0 all (meets.0 e)),
+    )
 
--- one child more is done
-pub area_step : (s w x : Tree) (p : Place) (b : Cube) (i : ℕ) (lo hi : Voxel) (event : Event)
-    → IsLinked s → b.depth ≤ 15 → i < 8 → IsAreaUnderWay s w p b lo hi event i
-    → IsTouched w x (child_of b i) (box_events lo hi event) false
-    → spare w.groups ≤ spare x.groups + cut_in lo hi (child_of b i)
-    → IsAreaUnderWay s x p b lo hi event (i + 1)
-area_step s w x p b i lo hi event l low few way touched room =
-    let here = sum_below_next (λ j. cut_in lo hi (child_of b j)) i in
-    let before = way.room in
-    record {
-      done =
-          round_step s w x p b i (box_events lo hi event) (box_events lo hi event) false l low few
-          way.done touched (λ k v h. refl);
-      room = omega (arith, here, before, room);
-    }
+pub inside_meets : (area : Area) (b : Cube) (met : Bool) → area.outside ≡ false
+    → IsTrue met ↔ MeetsBox area.window.lo area.window.hi b → IsTrue met ↔ MeetsArea area b
+inside_meets area b met is meets =
+    let same = meets_inside area.window.lo area.window.hi b in
+    subst (λ o. IsTrue met ↔ ((k : Voxel) × HoldsVoxel b k
+    × IsTrue (is_in_part o area.window.lo area.window.hi k))) (sym is)
+    (λ h. same.1 (meets.0 h), λ m. meets.1 (same.0 m))
 
--- or it doesn't meet the box
-pub area_skip : (s w : Tree) (p : Place) (b : Cube) (i : ℕ) (lo hi : Voxel) (event : Event)
-    → b.depth ≤ 15 → i < 8 → (MeetsBox lo hi (child_of b i) → ⊥)
-    → IsAreaUnderWay s w p b lo hi event i → IsAreaUnderWay s w p b lo hi event (i + 1)
-area_skip s w p b i lo hi event low few out way =
-    let here = sum_below_next (λ j. cut_in lo hi (child_of b j)) i in
-    let before = way.room in
-    record {
-      done =
-          round_skip s w p b i (i + 1) (box_events lo hi event) false low (omega arith)
-          (omega arith) none way.done;
-      room = omega (arith, here, before);
-    }
-  where
-    none : (k : Voxel) → IsInMap k → HoldsVoxel b k → i ≤ child_index_of b.depth k
-        → child_index_of b.depth k < i + 1 → box_events lo hi event k ≡ None
-    none k v h from to =
-        no_event_outside lo hi event k
-        (λ inside. out (k, (child_holds b i k (omega arith) few).1 (h, omega arith), inside))
+pub inside_covers : (area : Area) (b : Cube) (covered : Bool) → area.outside ≡ false
+    → IsTrue covered ↔ LiesInBox area.window.lo area.window.hi b
+    → IsTrue covered ↔ LiesInArea area b
+inside_covers area b covered is covers =
+    let same = lies_inside area.window.lo area.window.hi b in
+    subst (λ o. IsTrue covered ↔ ((k : Voxel) → HoldsVoxel b k
+    → IsTrue (is_in_part o area.window.lo area.window.hi k))) (sym is)
+    (λ h. same.1 (covers.0 h), λ all. covers.1 (same.0 all))
 
--- the place is where it was, and links its group
-pub area_back : (t s w : Tree) (p : Place) (b : Cube) (id : GroupId) (i : ℕ) (lo hi : Voxel)
-    (event : Event)
-    → IsEntered t s p b id → IsAreaUnderWay s w p b lo hi event i
-    → IsPlace w p × (block_in w p ≡ Some b) × (link_of (node_in w p) ≡ Some id.number)
-area_back t s w p b id i lo hi event e way =
-    let (v, link) = e.link in
-    (way.done.place, way.done.block, ap link_of (way.done.node ∙ link))
+-- a block with voxels in a box or outside of it, and others, is cut by the box
+part_cuts : (outside : Bool) (lo hi : Voxel) (b : Cube) → IsBlock b
+    → ((k : Voxel) × HoldsVoxel b k × IsTrue (is_in_part outside lo hi k))
+    → (((k : Voxel) → HoldsVoxel b k → IsTrue (is_in_part outside lo hi k)) → ⊥)
+    → is_cut_by lo hi b ≡ true
+part_cuts true lo hi b ok meets part = elim (passes_or_not (is_cut_by lo hi b)) [
+  | inl is ↦ is
+  | inr none ↦ absurd (part ((lies_outside lo hi b).1 (λ m. clash _
+      ((cut_exactly lo hi b ok).1 (m, (meets_outside lo hi b ok).0 meets)) none)))
+]
+part_cuts false lo hi b ok meets part =
+    (cut_exactly lo hi b ok).1 (
+      (meets_inside lo hi b).0 meets,
+      λ lies. part ((lies_inside lo hi b).1 lies),
+    )
+
+-- a block that meets an area and doesn't lie in it is cut by the area's box
+area_cuts : (area : Area) (b : Cube) → IsBlock b → MeetsArea area b → (LiesInArea area b → ⊥)
+    → is_cut_by area.window.lo area.window.hi b ≡ true
+area_cuts area b = part_cuts area.outside area.window.lo area.window.hi b
+
+-- a voxel of an area has the event, and another one none
+pub event_in_area : (area : Area) (event : Event) (k : Voxel) → IsTrue (is_in_area area k)
+    → area_events area event k ≡ Some event
+event_in_area area event k h = ap (λ test. cond test (Some event) None) h
+
+pub no_event_elsewhere : (area : Area) (event : Event) (k : Voxel)
+    → (IsTrue (is_in_area area k) → ⊥) → area_events area event k ≡ None
+no_event_elsewhere area event k out = elim (passes_or_not (is_in_area area k)) [
+  | inl is ↦ absurd (out is)
+  | inr none ↦ ap (λ test. cond test (Some event) None) none
+]
 
 no_event : (other : Event) → ◌≡◌ {A = Option Event} None (Some other) → ⊥
 no_event other is = cc
 
--- what a place that links nothing gives its voxels takes nothing from the event: nothing is to do
-pub area_still : (t : Tree) (p : Place) (b : Cube) (lo hi : Voxel) (event : Event) → IsLinked t
+-- no voxel has another event
+one_event : (area : Area) (event other : Event) (k : Voxel)
+    → area_events area event k ≡ Some other → event ≡ other
+one_event area event other k is = by_test (is_in_area area k) is
+  where
+    by_test : (test : Bool) → cond test (Some event) None ≡ Some other → event ≡ other
+    by_test true is = some_injective is
+    by_test false is = absurd (no_event other is)
+
+-- a block that meets the area is reached
+pub area_reaches : (area : Area) (event : Event) (b : Cube) → IsBlock b → MeetsArea area b
+    → Reaches (area_events area event) b b
+area_reaches area event b ok (k, held, inside) = record {
+  voxel = k;
+  in_map = held_in_map b k ok held;
+  here = held;
+  there = held;
+  event = ap is_some (event_in_area area event k inside);
+}
+
+-- The walk stands at a place whose block the area meets, and has to enter it: the event changes
+-- what is there, and where the place links no group, not all of the block lies in the area.
+pub record IsParted (t : Tree) (p : Place) (b : Cube) (area : Area) (event : Event) : Type 0 where
+  pub linked : IsLinked t
+  pub place : IsPlace t p
+  pub at : block_in t p ≡ Some b
+  pub of : IsBlock b
+  pub meets : MeetsArea area b
+  pub moved : IsUnmoved t.odds event (node_in t p) → ⊥
+  pub part : link_of (node_in t p) ≡ None → LiesInArea area b → ⊥
+
+pub parted : (t : Tree) (p : Place) (b : Cube) (area : Area) (event : Event) (idle whole : Bool)
+    → IsLinked t → IsPlace t p → block_in t p ≡ Some b → IsBlock b → MeetsArea area b
+    → idle ≡ false → IsTrue idle ↔ IsUnmoved t.odds event (node_in t p)
+    → whole ≡ false → IsTrue whole ↔ ((link_of (node_in t p) ≡ None) × LiesInArea area b)
+    → IsParted t p b area event
+parted t p b area event idle whole l ok at of meets not_idle idles not_whole wholes = record {
+  linked = l;
+  place = ok;
+  at = at;
+  of = of;
+  meets = meets;
+  moved = λ h. clash idle (idles.1 h) not_idle;
+  part = λ plain lies. clash whole (wholes.1 (plain, lies)) not_whole;
+}
+
+-- it is no voxel
+pub parted_low : (t : Tree) (p : Place) (b : Cube) (area : Area) (event : Event)
+    → IsParted t p b area event → b.depth ≤ 15
+parted_low t p b area event h = elim (cases_lt b.depth 16) [
+  | inl less ↦ omega (arith, less)
+  | inr more ↦ (let top = h.of.depth in
+      let deep : b.depth ≡ 16 = omega (arith, more, top) in
+      let (k, held, inside) = h.meets in
+      let here : b ≡ block_of 16 k = around b k held ∙ ap (λ d. block_of d k) deep in
+      let plain = voxel_plain t p k h.linked (h.at ∙ ap Some here) in
+      absurd (h.part plain (λ q lies. subst (λ a. IsTrue (is_in_area area a))
+      (only_voxel b k deep held ∙ sym (only_voxel b q deep lies)) inside)))
+]
+
+-- a node that links no group, and that the event changes, takes one
+splits_plain : (odds : Odds) (event : Event) (n : Node) → link_of n ≡ None
+    → (IsUnmoved odds event n → ⊥) → is_split_by event n ≡ true
+splits_plain odds event (Inner v id) plain moved = cc
+splits_plain odds event (Leaf v) plain moved = refl
+splits_plain odds (Add u) Absent plain moved = refl
+splits_plain odds (Set v) Absent plain moved = refl
+splits_plain odds Forget Absent plain moved = absurd (moved (inl (refl, refl)))
+splits_plain odds Likely Absent plain moved = refl
+
+-- so where the place links no group, one is counted for it
+pub parted_splits : (t : Tree) (p : Place) (b : Cube) (area : Area) (event : Event)
+    → IsParted t p b area event → link_of (node_in t p) ≡ None
+    → cond {A = ℕ} (splits_at t area event b) 1 0 ≡ 1
+parted_splits t p b area event h plain =
+    let cut = area_cuts area b h.of h.meets (h.part plain) in
+    let there = place_reached t h.linked p h.place b h.at (lowest_voxel b)
+    (lowest_in_map b h.of) (lowest_held b) in
+    let split = ap (is_split_by event) there
+    ∙ splits_plain t.odds event (node_in t p) plain h.moved in
+    rw (cut, split) refl
+
+-- and a voxel there takes something
+pub parted_takes : (t : Tree) (p : Place) (b : Cube) (area : Area) (event : Event)
+    → IsParted t p b area event → link_of (node_in t p) ≡ None
+    → TakesIn t (area_events area event) b
+parted_takes t p b area event h plain =
+    let (k, held, inside) = h.meets in (
+      k,
+      held,
+      (
+        event,
+        event_in_area area event k inside,
+        λ full. h.moved (inr
+            (subst (IsSaturated t.odds event)
+            (covered t p b h.linked h.place h.at h.of.depth plain k (held_in_map b k h.of held)
+            held)
+            full)),
+      ),
+    )
+
+-- where the event changes nothing at a place, the edit of its block was done before it begins
+pub area_still : (t : Tree) (p : Place) (b : Cube) (area : Area) (event : Event) → IsLinked t
     → IsPlace t p → block_in t p ≡ Some b → IsBlock b → t.odds.min ≤ℤ t.odds.max
-    → IsSaturated t.odds event (value_of (node_in t p))
-    → IsTouched t t b (box_events lo hi event) false
-area_still t p b lo hi event l ok e in_map bounds saturated =
-    still_touched t p b (box_events lo hi event) false l ok e in_map.depth
+    → IsUnmoved t.odds event (node_in t p) → IsTouched t t b (area_events area event) false
+area_still t p b area event l ok e of bounds (inr saturated) =
+    still_touched t p b (area_events area event) false l ok e of.depth
     (known_plain (node_in t p) (saturated_known t.odds event (value_of (node_in t p)) saturated))
     bounds
-    (λ k other is. subst (λ x. IsSaturated t.odds x (value_of (node_in t p))) (one_event k other is)
-    saturated)
+    (λ k other is. subst (λ x. IsSaturated t.odds x (value_of (node_in t p)))
+    (one_event area event other k is) saturated)
+area_still t p b area event l ok e of bounds (inl (forgets, absent)) =
+    idle_touched t p b (area_events area event) false l ok e of.depth (ap link_of absent)
+    (λ k. ap (after_event t.odds (area_events area event k)) (ap value_of absent)
+    ∙ by_test (is_in_area area k) ∙ sym (ap value_of absent))
+    (λ lazy. absurd (false≢true lazy))
   where
-    by_test : (test : Bool) (other : Event) → cond test (Some event) None ≡ Some other
-        → event ≡ other
-    by_test true other is = some_injective is
-    by_test false other is = absurd (no_event other is)
-
-    one_event : (k : Voxel) (other : Event) → box_events lo hi event k ≡ Some other → event ≡ other
-    one_event k other is = by_test (is_in_box lo hi k) other is
-
--- where it takes something, so does a voxel of the box
-area_takes : (t : Tree) (p : Place) (b : Cube) (lo hi : Voxel) (event : Event) → IsLinked t
-    → IsPlace t p → block_in t p ≡ Some b → IsBlock b → MeetsBox lo hi b
-    → (IsSaturated t.odds event (value_of (node_in t p)) → ⊥) → link_of (node_in t p) ≡ None
-    → TakesIn t (box_events lo hi event) b
-area_takes t p b lo hi event l ok e in_map (k, held, inside) more plain = (
-  k,
-  held,
-  (
-    event,
-    event_in_box lo hi event k inside,
-    λ h. more
-        (subst (IsSaturated t.odds event)
-        (covered t p b l ok e in_map.depth plain k (held_in_map b k in_map held) held) h),
-  ),
-)
-
--- once the group is closed, the block is done
-pub area_end : (t s w z : Tree) (p : Place) (b : Cube) (id : GroupId) (i : ℕ) (lo hi : Voxel)
-    (event : Event)
-    → i ≡ 8 → IsLinked t → IsPlace t p → block_in t p ≡ Some b → IsBlock b → b.depth ≤ 15
-    → MeetsBox lo hi b → (IsSaturated t.odds event (value_of (node_in t p)) → ⊥)
-    → IsEntered t s p b id → IsAreaUnderWay s w p b lo hi event i → IsClosed w z b false
-    → IsTouched t z b (box_events lo hi event) false
-area_end t s w z p b id i lo hi event last l ok at in_map low meets more e way d =
-    round_end t s w z p b id (box_events lo hi event) false l low e
-    (subst (λ n. IsTouchedBelow s w p b n (box_events lo hi event) false) last way.done) d
-    (box_reaches lo hi event b in_map meets)
-    (area_takes t p b lo hi event l ok at in_map meets more)
-
-pub area_spared : (t s w z : Tree) (p : Place) (b : Cube) (i : ℕ) (lo hi : Voxel) (event : Event)
-    → i ≡ 8 → b.depth ≤ 15 → spare t.groups ≤ spare s.groups + cond {A = ℕ} (is_cut_by lo hi b) 1 0
-    → IsAreaUnderWay s w p b lo hi event i → IsClosed w z b false
-    → spare t.groups ≤ spare z.groups + cut_in lo hi b
-area_spared t s w z p b i lo hi event last low entered way d =
-    let all = cuts_of_children lo hi b low in
-    let done : sum_below (λ j. cut_in lo hi (child_of b j)) i
-    ≡ sum_below (λ j. cut_in lo hi (child_of b j)) 8 =
-    ap (sum_below (λ j. cut_in lo hi (child_of b j))) last in
-    let before = way.room in
-    let after = d.spare in
-    omega (arith, all, done, before, after, entered)
-
--- this many groups more at most
-pub area_groups : (t u : Tree) (lo hi : Voxel) (event : Event)
-    → IsTouched t u root_block (box_events lo hi event) false
-    → spare t.groups ≤ spare u.groups + cut_in lo hi root_block
-    → live u.groups ≤ live t.groups + box_need lo hi
-unfolding box_need
-area_groups t u lo hi event r h =
-    (let total = same_total t.groups u.groups r.apart.outside.length in omega (arith, total, h))
-
-pub area_need : (lo hi : Voxel) (room : ℕ) → box_need lo hi ≤ room → cut_in lo hi root_block ≤ room
-unfolding box_need
-area_need lo hi room h = h
+    by_test : (test : Bool) → after_event t.odds (cond test (Some event) None) None ≡ None
+    by_test true = ap (λ x. after_event t.odds (Some x) None) forgets
+    by_test false = refl

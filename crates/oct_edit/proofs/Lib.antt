@@ -14,6 +14,7 @@ pub mod Descents
 pub mod Keys
 pub mod Shares
 pub mod Rounds
+pub mod Counts
 pub mod Needs
 pub mod Expansions
 pub mod UpdateEnds
@@ -36,3 +37,7 @@ pub mod Ways
 pub mod Wholes
 pub mod Leaves
 pub mod Areas
+pub mod AreaWalks
+pub mod NodesOver
+pub mod Keeps
+pub mod Clips

@@ -24,7 +24,7 @@ use Rattle.oct_tree.proofs.Paths.{value_at_last}
 use Rattle.oct_edit.specs.Listed.{ListedUpdate}
 use Rattle.oct_edit.specs.Saturated.{IsSaturated}
 use Rattle.oct_edit.proofs.Takes.{takes_alike}
-use Rattle.oct_edit.specs.Steps.{Reaches, IsTouched}
+use Rattle.oct_edit.specs.Steps.{Reaches, IsOpenAbove, IsTouched}
 use Rattle.oct_edit.specs.Scan.{events_of}
 use Rattle.oct_edit.specs.Parts.{AreIn, IsUpdateIn, IsAtRest}
 use Rattle.oct_edit.proofs.Insides.{around, lies_deep, one_voxel}
@@ -102,20 +102,18 @@ vacant_under t p b l ok e m plain c x k v here there lies home =
     (ap link_of (stays t k b.depth (c.depth - b.depth) c.depth (omega (arith, deep)) none)
     ∙ none)
 
--- events from which no voxel of a place that links nothing takes anything were done before they
--- begin
-pub still_touched : (t : Tree) (p : Place) (b : Cube) (events : Events) (lazy : Bool) → IsLinked t
+-- events that change no voxel of a place that links nothing were done before they begin
+pub idle_touched : (t : Tree) (p : Place) (b : Cube) (events : Events) (lazy : Bool) → IsLinked t
     → IsPlace t p → block_in t p ≡ Some b → b.depth ≤ 16 → link_of (node_in t p) ≡ None
-    → t.odds.min ≤ℤ t.odds.max
-    → ((k : Voxel) (event : Event) → events k ≡ Some event → IsSaturated t.odds event
-    (value_of (node_in t p)))
-    → IsTouched t t b events lazy
-still_touched t p b events lazy l ok e m plain bounds rest = record {
+    → ((k : Voxel) → after_event t.odds (events k) (value_of (node_in t p))
+    ≡ value_of (node_in t p))
+    → (lazy ≡ true → IsOpenAbove t t b events) → IsTouched t t b events lazy
+idle_touched t p b events lazy l ok e m plain same opened = record {
   linked = l;
   inside =
       λ k v h.
       sym (ap (after_event t.odds (events k)) (covered t p b l ok e m plain k v h)
-      ∙ stays_at k (events k) refl ∙ sym (covered t p b l ok e m plain k v h));
+      ∙ same k ∙ sym (covered t p b l ok e m plain k v h));
   elsewhere = λ k v out. refl;
   apart = apart_refl t b events;
   closed =
@@ -124,11 +122,21 @@ still_touched t p b events lazy l ok e m plain bounds rest = record {
       home);
   expanded = λ x c home. inl (x, home);
   nodes = λ _ d q _ _. become_same (reach t d q);
-  opened =
-      λ _ d k _ _ v h (event, is, more).
-      absurd (more (subst (IsSaturated t.odds event) (sym (covered t p b l ok e m plain k v h))
-      (rest k event is)));
+  opened = opened;
 }
+
+-- so are those from which none takes anything
+pub still_touched : (t : Tree) (p : Place) (b : Cube) (events : Events) (lazy : Bool) → IsLinked t
+    → IsPlace t p → block_in t p ≡ Some b → b.depth ≤ 16 → link_of (node_in t p) ≡ None
+    → t.odds.min ≤ℤ t.odds.max
+    → ((k : Voxel) (event : Event) → events k ≡ Some event → IsSaturated t.odds event
+    (value_of (node_in t p)))
+    → IsTouched t t b events lazy
+still_touched t p b events lazy l ok e m plain bounds rest =
+    idle_touched t p b events lazy l ok e m plain (λ k. stays_at k (events k) refl)
+    (λ _ d k _ _ v h (event, is, more).
+    absurd (more (subst (IsSaturated t.odds event) (sym (covered t p b l ok e m plain k v h))
+    (rest k event is))))
   where
     stays_at : (k : Voxel) (o : Option Event) → events k ≡ o
         → after_event t.odds o (value_of (node_in t p)) ≡ value_of (node_in t p)

@@ -8,3 +8,4 @@ pub mod Parts
 pub mod Bricks
 pub mod Way
 pub mod Areas
+pub mod Keep

@@ -2,7 +2,7 @@
 -- nothing: each group is copied with the value over it, and needs no closing.
 use Rattle.std.proofs.Common.{◌≡◌, ◌≢◌, ℕ, ◌+◌, ◌<◌, ◌≤◌, false, inl, inr, Some, None, refl}
 use Rattle.std.proofs.Common.{sym, ◌∙◌, ap, subst, arith}
-use Rattle.std.specs.Prelude.{ℤ, Option, ◌⊎◌, IsSome}
+use Rattle.std.specs.Prelude.{ℤ, Option, IsSome}
 use Rattle.std.proofs.lemmas.Bool.{cases_eq}
 use Rattle.oct_key.specs.Voxel.{Voxel, IsInMap}
 use Rattle.oct_key.specs.Values.{SameValues}
@@ -22,7 +22,7 @@ use Rattle.oct_tree.specs.Nodes.{IsCollapsible, IsGreatest}
 use Rattle.oct_tree.specs.Shape.{IsFresh, IsPruned, IsWellFormed}
 use Rattle.oct_tree.specs.Tree.{IsOver, Tree, IsLinked, IsPlace, node_in, block_in, step, value_at}
 use Rattle.oct_tree.specs.Changes.{IsSameOutside, IsSplit, IsWritten, SetsBlock}
-use Rattle.oct_tree.proofs.Paths.{slot_block, some_injective, some_not_none, step_linked}
+use Rattle.oct_tree.proofs.Paths.{slot_block, some_injective, step_linked}
 use Rattle.oct_tree.proofs.Over.{reach_place}
 use Rattle.oct_edit.specs.Steps.{IsTouched}
 use Rattle.oct_edit.proofs.Joins.{IsUnfolded}

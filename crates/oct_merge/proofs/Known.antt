@@ -1,43 +1,22 @@
 -- The node over a block, and what it says of the block's voxels.
-use Rattle.std.proofs.Common.{◌≡◌, ℕ, zero, suc, ◌+◌, ◌-◌, ◌<◌, ◌≤◌, Some, refl, sym, ◌∙◌, ap}
-use Rattle.std.proofs.Common.{subst, arith}
+use Rattle.std.proofs.Common.{◌≡◌, ℕ, zero, suc, ◌+◌, ◌-◌, ◌≤◌, Some, refl, ap}
+use Rattle.std.proofs.Common.{arith}
 use Rattle.std.specs.Prelude.{is_some}
-use Rattle.oct_key.specs.Block.{Cube, IsBlock, child_of, child_index_of, lowest_voxel, root_block}
-use Rattle.oct_key.proofs.Blocks.{depth_child_of, child_in_map, child_holds, lowest_held}
-use Rattle.oct_key.proofs.Held.{held_in_map, held_by_parent, child_depths}
+use Rattle.oct_key.specs.Block.{Cube, IsBlock, child_of, lowest_voxel}
+use Rattle.oct_key.proofs.Blocks.{child_in_map, lowest_held}
+use Rattle.oct_key.proofs.Held.{held_in_map, child_depths}
 use Rattle.oct_values.specs.Counts.{IsKnownIn}
 use Rattle.oct_values.proofs.Children.{known_above}
 use Rattle.oct_arena.specs.declared.node.Node.{Node}
 use Rattle.oct_arena.specs.declared.node.Node.TheVariants.{Absent, Leaf, Inner}
-use Rattle.oct_arena.specs.Entries.{entry, node_at, IsLive}
+use Rattle.oct_arena.specs.Entries.{node_at}
 use Rattle.oct_arena.specs.Nodes.{link_of}
 use Rattle.oct_tree.specs.declared.place.Place.{Place}
-use Rattle.oct_tree.specs.Tree.{Tree, IsLinked, IsPlace, node_in, block_in, step, reach, value_at}
+use Rattle.oct_tree.specs.Tree.{Tree, IsLinked, IsPlace, node_in, block_in, value_at}
 use Rattle.oct_tree.specs.Shape.{IsWellFormed}
-use Rattle.oct_tree.proofs.Paths.{homed_entry, place_reached, reach_zero, reach_suc}
+use Rattle.oct_tree.proofs.Paths.{homed_entry, place_reached}
 use Rattle.oct_tree.proofs.Over.{over_child, over_value, over_home}
 use Rattle.oct_tree.specs.Tree.{IsOver}
-
--- from a block to its children
-pub over_step : (t : Tree) (b : Cube) (n : Node) (i : ℕ) → b.depth < 16 → i < 8 → IsOver t b n
-    → IsOver t (child_of b i) (step t.groups n i)
-over_step t b n i low li over k held =
-    ap (λ d. reach t d k) (depth_child_of b i) ∙ reach_suc t b.depth k
-    ∙ ap (λ m. step t.groups m (child_index_of b.depth k))
-    (over k (held_by_parent b i k low li held))
-    ∙ ap (step t.groups n) ((child_holds b i k low li).0 held).1
-
--- the same, for a block and a node that are known to be these
-pub over_next : (t : Tree) (b c : Cube) (n m : Node) (i : ℕ) → b.depth ≤ 15 → i < 8
-    → c ≡ child_of b i → m ≡ step t.groups n i → IsOver t b n → IsOver t c m
-over_next t b c n m i low li block node over =
-    subst (IsOver t c) (sym node)
-    (subst (λ a. IsOver t a (step t.groups n i)) (sym block)
-    (over_step t b n i (omega (arith, low)) li over))
-
--- at the root
-pub over_root : (t : Tree) → IsOver t root_block t.root
-over_root t k held = reach_zero t k
 
 -- at a place
 pub over_place : (t : Tree) (p : Place) (b : Cube) → IsLinked t → IsPlace t p
@@ -45,13 +24,7 @@ pub over_place : (t : Tree) (p : Place) (b : Cube) → IsLinked t → IsPlace t 
 over_place t p b l ok e in_map k held =
     place_reached t l p ok b e k (held_in_map b k in_map held) held
 
--- the group that it links is live
-pub over_live : (t : Tree) (b : Cube) (n : Node) → IsLinked t → IsBlock b → IsOver t b n → (x : ℕ)
-    → link_of n ≡ Some x → IsLive t.groups x
-over_live t b n l ok over x link =
-    homed_entry (entry t.groups x) b (over_home t b n x l ok over link)
-
--- and no voxel's
+-- a block with a group is no voxel
 pub over_low : (t : Tree) (b : Cube) (n : Node) (x : ℕ) → IsLinked t → IsBlock b → IsOver t b n
     → link_of n ≡ Some x → b.depth ≤ 15
 over_low t b n x l ok over link = (l.homes x b (over_home t b n x l ok over link)).1

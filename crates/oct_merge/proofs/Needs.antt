@@ -21,9 +21,10 @@ use Rattle.oct_tree.specs.declared.place.Place.{Place}
 use Rattle.oct_tree.specs.Tree.{IsOver, Tree, IsLinked, reach}
 use Rattle.oct_tree.proofs.Paths.{some_not_none, reach_home, unlinked_step}
 use Rattle.oct_edit.proofs.Joins.{IsUnfolded}
-use Rattle.oct_edit.proofs.Needs.{sum_below_eight}
+use Rattle.oct_edit.proofs.Counts.{sum_below_eight}
 use Rattle.oct_merge.specs.Walk.{is_split, is_needed, need_in, is_common, common_in}
-use Rattle.oct_merge.proofs.Known.{over_step, over_low}
+use Rattle.oct_merge.proofs.Known.{over_low}
+use Rattle.oct_edit.proofs.NodesOver.{over_step}
 
 -- by the nodes over a block
 pub needed_by_nodes : (t o : Tree) (b : Cube) (m n : Node) → IsOver t b m → IsOver o b n

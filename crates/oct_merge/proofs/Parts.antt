@@ -1,5 +1,5 @@
 -- The merge of a block, child after child.
-use Rattle.std.proofs.Common.{◌≡◌, ◌≢◌, ℕ, ◌+◌, ◌<◌, ◌≤◌, Bool, false, cond, inl, inr, Some, None, refl}
+use Rattle.std.proofs.Common.{◌≡◌, ◌≢◌, ℕ, ◌+◌, ◌<◌, ◌≤◌, false, cond, inl, inr, Some, None, refl}
 use Rattle.std.proofs.Common.{sym, ◌∙◌, ap, subst, arith}
 use Rattle.std.specs.Prelude.{Option, ◌&&◌, ◌⊎◌, not, is_some, IsSome}
 use Rattle.std.proofs.lemmas.Bool.{false≢true}

@@ -22,7 +22,8 @@ use Rattle.oct_values.proofs.Eights.{sum_by-flat_map, same_eight}
 use Rattle.oct_values.proofs.Held.{all_held}
 use Rattle.oct_values.proofs.Sums.{All-follows, sum_by-same, sum_by-each_le, sum_by-none}
 use Rattle.oct_values.proofs.Sums.{sum_by-turned, count_by-same}
-use Rattle.oct_edit.proofs.Needs.{sum_below_eight, sum_below_le}
+use Rattle.oct_edit.proofs.Counts.{sum_below_eight}
+use Rattle.oct_edit.proofs.Needs.{sum_below_le}
 use Rattle.oct_arena.specs.declared.node.Node.{Node}
 use Rattle.oct_arena.specs.Nodes.{link_of, value_of}
 use Rattle.oct_tree.specs.Tree.{IsOver, Tree, IsLinked, value_at}

@@ -32,7 +32,7 @@ use Rattle.oct_brick.proofs.BrickCodes.{codes_by, by_cons}
 use Rattle.oct_edit.specs.Listed.{update_of}
 use Rattle.oct_edit.specs.Scan.{events_of}
 use Rattle.oct_values.proofs.Axes.{sum_below}
-use Rattle.oct_edit.proofs.Needs.{sum_below_eight}
+use Rattle.oct_edit.proofs.Counts.{sum_below_eight}
 use Rattle.oct_edit.proofs.Voxels.{event_here, event_only}
 
 -- one for a block that events reach

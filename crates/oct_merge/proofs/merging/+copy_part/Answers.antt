@@ -1,4 +1,4 @@
-use Rattle.std.proofs.Common.{◌≡◌, ◌≢◌, ℕ, ◌+◌, ◌<◌, ◌≤◌, refl, sym, subst, ◌∙◌, ap, arith, rules}
+use Rattle.std.proofs.Common.{◌≡◌, ℕ, ◌+◌, ◌<◌, ◌≤◌, refl, sym, subst, ◌∙◌, ap, arith, rules}
 use Rattle.std.proofs.Common.{Some, None, false, inl, cond, SFits, w32, to_z, of_z, to_z-of_z}
 use Rattle.std.proofs.lemmas.Bool.{false≢true}
 use Rattle.oct_key.specs.Block.{Cube, child_of}
@@ -18,7 +18,7 @@ use Rattle.oct_merge.specs.Walk.{is_needed, need_in}
 use Rattle.oct_merge.proofs.Copies.{IsCopying, copying_start, copying_step, copying_fresh}
 use Rattle.oct_merge.proofs.Copies.{leaf_copied, like_same, copied_lean, copied_best, copied_end}
 use Rattle.oct_merge.proofs.Copies.{copied_spared, copied_node, stored_is}
-use Rattle.oct_merge.proofs.Known.{over_live, over_next}
+use Rattle.oct_edit.proofs.NodesOver.{over_live, over_next}
 use Rattle.oct_merge.proofs.Parts.{events_of, part_done, part_event, part_known, part_within}
 use Rattle.oct_merge.proofs.Parts.{part_low, part_needed, part_room, merging_place, merging_odds}
 use Rattle.oct_merge.proofs.Parts.{merging_room}

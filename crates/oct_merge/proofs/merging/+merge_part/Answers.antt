@@ -1,4 +1,4 @@
-use Rattle.std.proofs.Common.{◌≡◌, ◌≢◌, ◌+◌, ◌<◌, ◌≤◌, refl, sym, subst, ◌∙◌, ap, arith, rules}
+use Rattle.std.proofs.Common.{◌≡◌, ◌+◌, ◌<◌, ◌≤◌, refl, sym, subst, ◌∙◌, ap, arith, rules}
 use Rattle.std.proofs.Common.{Some, false}
 use Rattle.std.proofs.lemmas.Bool.{false≢true}
 use Rattle.oct_key.specs.Block.{Cube, child_of}
@@ -13,7 +13,7 @@ use Rattle.oct_edit.proofs.Joins.{unfolded}
 use Rattle.oct_odds.specs.Update.{IsWithin}
 use Rattle.oct_odds.specs.Odds.{Odds}
 use Rattle.oct_merge.specs.Walk.{need_in}
-use Rattle.oct_merge.proofs.Known.{over_live, over_next}
+use Rattle.oct_edit.proofs.NodesOver.{over_live, over_next}
 use Rattle.oct_merge.proofs.Parts.{events_of, part_done, part_event, part_known, part_within}
 use Rattle.oct_merge.proofs.Parts.{part_low, part_room, part_entered, merging_start, merging_place}
 use Rattle.oct_merge.proofs.Parts.{merging_odds, merging_room, merging_step, merging_back}

@@ -14,7 +14,7 @@ use Rattle.oct_merge.specs.Need.{merge_need}
 use Rattle.oct_merge.specs.Walk.{need_in}
 use Rattle.oct_merge.proofs.Homes.{need_by_blocks}
 use Rattle.oct_merge.proofs.Joined.{merge_after, merge_sets}
-use Rattle.oct_merge.proofs.Known.{over_root}
+use Rattle.oct_edit.proofs.NodesOver.{over_root}
 use Rattle.oct_merge.proofs.Parts.{events_of}
 use Rattle.oct_merge.proofs.merging.merge.Goals as goal
 

@@ -1,11 +1,11 @@
-use Rattle.std.proofs.Common.{◌≡◌, ◌+◌, ◌-◌, ◌^◌, ◌<◌, ◌≤◌, cond, refl, sym, subst, ◌∙◌, ap}
+use Rattle.std.proofs.Common.{◌≡◌, ◌+◌, ◌-◌, ◌^◌, ◌<◌, ◌≤◌, cond, sym, subst, ◌∙◌, ap}
 use Rattle.std.proofs.Common.{arith, rules}
 use Rattle.oct_key.specs.Block.{Cube, child_of}
 use Rattle.oct_key.specs.CubeOf.{cube_of}
 use Rattle.oct_key.proofs.Blocks.{block_in_map, depth_child_of}
 use Rattle.oct_query.proofs.Under.{few_next, few_all, sum_fits, depths_down}
 use Rattle.oct_merge.specs.Walk.{is_common, common_in}
-use Rattle.oct_merge.proofs.Known.{over_live, over_next}
+use Rattle.oct_edit.proofs.NodesOver.{over_live, over_next}
 use Rattle.oct_merge.proofs.Needs.{common_none, common_none_there, common_of_children, common_here}
 use Rattle.oct_merge.proofs.Needs.{linked_low, sum_first, sum_next, sum_last}
 use Rattle.oct_merge.proofs.need.+common_under.Goals as goal

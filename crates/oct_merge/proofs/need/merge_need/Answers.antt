@@ -1,12 +1,11 @@
 use Rattle.std.proofs.Common.{◌≡◌, ◌+◌, ◌<◌, ◌≤◌, ◌∙◌, sym, subst, ap, arith, rules}
-use Rattle.oct_key.specs.Block.{root_block}
 use Rattle.oct_arena.specs.Entries.{live}
 use Rattle.oct_arena.proofs.Entries.{live_spare}
 use Rattle.oct_tree.specs.Tree.{IsOver}
 use Rattle.oct_merge.specs.Need.{merge_need}
 use Rattle.oct_merge.specs.Walk.{common_in}
-use Rattle.oct_merge.proofs.Homes.{live_by_blocks, need_few}
-use Rattle.oct_merge.proofs.Known.{over_root}
+use Rattle.oct_merge.proofs.Homes.{live_by_blocks}
+use Rattle.oct_edit.proofs.NodesOver.{over_root}
 use Rattle.oct_merge.proofs.need.merge_need.Goals.{After-common_under-common}
 use Rattle.oct_merge.proofs.need.merge_need.Goals as goal
 

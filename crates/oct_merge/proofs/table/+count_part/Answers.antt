@@ -6,7 +6,7 @@ use Rattle.oct_key.proofs.Blocks.{block_in_map, depth_child_of}
 use Rattle.oct_values.specs.Classes.{classes_of}
 use Rattle.oct_tree.specs.Tree.{value_at}
 use Rattle.oct_merge.specs.Pairs.{pairs_in}
-use Rattle.oct_merge.proofs.Known.{over_live, over_next}
+use Rattle.oct_edit.proofs.NodesOver.{over_live, over_next}
 use Rattle.oct_merge.proofs.Tables.{both_low, counted_none, counted_plain, counted_room, child_room}
 use Rattle.oct_merge.proofs.Tables.{child_first, child_next, child_last}
 use Rattle.oct_merge.proofs.table.+count_part.Goals as goal

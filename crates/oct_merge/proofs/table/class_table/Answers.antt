@@ -6,7 +6,7 @@ use Rattle.oct_key.specs.CubeOf.{cube_of}
 use Rattle.oct_values.specs.Classes.{classes_of}
 use Rattle.oct_tree.specs.Tree.{IsOver, value_at}
 use Rattle.oct_merge.specs.Pairs.{pairs_in}
-use Rattle.oct_merge.proofs.Known.{over_root}
+use Rattle.oct_edit.proofs.NodesOver.{over_root}
 use Rattle.oct_merge.proofs.Tables.{zeros, from_none, empty_room, whole_table, table_total}
 use Rattle.oct_merge.proofs.table.class_table.Goals as goal
 
