@@ -203,27 +203,40 @@ readied_mark m u need ready =
     kept_mark m u (same_noted m.mark u.mark ready.notes) ready.values
     (ap (λ (g : Ground). g.odds) ready.setup)
 
--- room was made in a map, its voxels were noted, and its tree was edited
-pub marked_edit : (m u : Map) (w : Tree) (b c : Option Held) (d : Events) (P : Voxel → Type 0)
+-- an edit changes the class of no voxel but one that has an event
+pub edit_cover : (u : Map) (w : Tree) (c : Option Held) (d : Events) (P : Voxel → Type 0)
+    (lazy : Bool) → IsEdited u.tree w d → ((k : Voxel) → IsInMap k → IsSome (d k) → P k)
+    → (k : Voxel) → IsInMap k → (classes_in (edited_to u w lazy c) k ≡ classes_in u k) ⊎ P k
+edit_cover u w c d P lazy edited asked k v =
+    elim (events_cover u.tree.odds d (values_of u) (value_at w) P edited.values asked k v) [
+      | inl value ↦ inl (ap (λ (o : Odds). class_of o (value_at w k)) edited.odds
+          ∙ ap (class_of u.tree.odds) value)
+      | inr is ↦ inr is
+    ]
+
+-- room was made in a map, voxels were noted, and no other one changed its class
+pub marked_change : (m u : Map) (w : Tree) (b c : Option Held) (P : Voxel → Type 0)
     (n need : ℕ) (lazy : Bool) → IsReadied m u need → IsSameNoted u.mark b
-    → HasMarked (classes_in u) P n b c → IsEdited u.tree w d
-    → ((k : Voxel) → IsInMap k → IsSome (d k) → P k) → KeepsMark m (edited_to u w lazy c)
-marked_edit m u w b c d P n need lazy ready noted marked edited asked =
+    → HasMarked (classes_in u) P n b c
+    → ((k : Voxel) → IsInMap k
+    → (classes_in (edited_to u w lazy c) k ≡ classes_in u k) ⊎ P k)
+    → KeepsMark m (edited_to u w lazy c)
+marked_change m u w b c P n need lazy ready noted marked cover =
     same_mark_trans (marked_of m) (marked_of u) (marked_of (edited_to u w lazy c))
     (readied_mark m u need ready)
     (same_mark_trans (marked_of u) (marked_by_notes b (classes_in u))
     (marked_of (edited_to u w lazy c))
     (marked_kept u.mark b (classes_in u) (classes_in u) noted (λ k v. refl))
     (marked_more P n b c (classes_in u) (classes_in (edited_to u w lazy c)) marked cover))
-  where
-    cover : (k : Voxel) → IsInMap k
-        → (classes_in (edited_to u w lazy c) k ≡ classes_in u k) ⊎ P k
-    cover k v = elim (events_cover u.tree.odds d (values_of u) (value_at w) P edited.values asked k
-        v) [
-          | inl value ↦ inl (ap (λ (o : Odds). class_of o (value_at w k)) edited.odds
-              ∙ ap (class_of u.tree.odds) value)
-          | inr is ↦ inr is
-        ]
+
+-- room was made in a map, its voxels were noted, and its tree was edited
+pub marked_edit : (m u : Map) (w : Tree) (b c : Option Held) (d : Events) (P : Voxel → Type 0)
+    (n need : ℕ) (lazy : Bool) → IsReadied m u need → IsSameNoted u.mark b
+    → HasMarked (classes_in u) P n b c → IsEdited u.tree w d
+    → ((k : Voxel) → IsInMap k → IsSome (d k) → P k) → KeepsMark m (edited_to u w lazy c)
+marked_edit m u w b c d P n need lazy ready noted marked edited asked =
+    marked_change m u w b c P n need lazy ready noted marked
+    (edit_cover u w c d P lazy edited asked)
 
 -- there was no room for notes
 pub marked_room : (m u : Map) (b : Option Held) (need : ℕ) → IsReadied m u need → b ≡ u.mark

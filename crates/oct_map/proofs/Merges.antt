@@ -1,7 +1,7 @@
 -- What a merge needs and leaves of a map.
 use Rattle.std.proofs.Common.{◌≡◌, ℕ, ◌+◌, ◌<◌, ◌≤◌, Bool, true, false, Some, None, Ok, Err, inl}
 use Rattle.std.proofs.Common.{inr, refl, sym, subst, ◌∙◌, ap, arith}
-use Rattle.std.specs.Prelude.{Option, ◌&&◌, not, ⊤, Result, nat_lt, if◌then◌else◌}
+use Rattle.std.specs.Prelude.{Option, ◌&&◌, ◌⊎◌, not, ⊤, Result, nat_lt, if◌then◌else◌}
 use Rattle.std.specs.Prelude.{IfErr, IsTrue, IsSome, OnOk, is_some}
 use Rattle.std.proofs.lemmas.Bool.{false≢true, cases_lt, lt-ltb, le-ltb}
 use Rattle.oct_key.specs.Voxel.{Voxel, IsInMap}
@@ -53,7 +53,7 @@ use Rattle.oct_map.specs.Merges.{IsPrunedAtMost, IsWide, given_events, given_vol
 use Rattle.oct_map.specs.Merges.{is_parted_by, more_groups, note_answer, union_answer}
 use Rattle.oct_map.proofs.Rooms.{fitted_own, fitted_least}
 use Rattle.oct_map.proofs.Edits.{edited_to}
-use Rattle.oct_map.proofs.Marks.{marked_edit}
+use Rattle.oct_map.proofs.Marks.{edit_cover, marked_change}
 
 is_false : (a : Bool) → (a ≡ true → ⊥) → a ≡ false
 is_false true h = absurd (h refl)
@@ -175,7 +175,7 @@ pruned_reserved m p n w y is pruned to second h =
     }
 
 -- what is pruned and then pruned again
-shrunk_on : (t u w : Tree) → IsShrunk t u → IsShrunk u w → IsShrunk t w
+pub shrunk_on : (t u w : Tree) → IsShrunk t u → IsShrunk u w → IsShrunk t w
 shrunk_on t u w f g = record {
   homes = λ x b home. f.homes x b (g.homes x b home);
   inner = λ p id v node. f.inner p id v (g.inner p id v node);
@@ -235,7 +235,7 @@ on_err m p n need (Ok a) to pruned h = tt
 on_err m p n need (Err fault) to pruned h = pruned_refused m p n fault need to pruned h
 
 -- a tree as it was
-shrunk_itself : (t : Tree) → IsShrunk t t
+pub shrunk_itself : (t : Tree) → IsShrunk t t
 shrunk_itself t = record {
   homes = λ x b home. home;
   inner = λ p id v node. node;
@@ -349,20 +349,30 @@ none_kept : (a c : Option Held) (before after : Classes) → a ≡ None → c �
     → SameMark (marked_by_notes a before) (marked_by_notes c after)
 none_kept a c before after first second = rw (first, second) tt
 
--- a mark is kept where the voxels were noted that the other map knows
+-- a mark is kept where the voxels were noted that change their class, if there is one
+pub marked_given : (m u : Map) (w : Tree) (b c : Option Held) (P : Voxel → Type 0) (n need : ℕ)
+    → IsReadied m u need → IsSameNoted u.mark b → HasMarked (classes_in u) P n b c
+    → (IsTrue (is_some m.mark) → (k : Voxel) → IsInMap k
+    → (classes_in (edited_to u w false c) k ≡ classes_in u k) ⊎ P k)
+    → KeepsMark m (edited_to u w false c)
+marked_given m u w b c P n need ready noted marked cover = by_test (is_some m.mark) refl
+  where
+    by_test : (test : Bool) → is_some m.mark ≡ test → KeepsMark m (edited_to u w false c)
+    by_test true e = marked_change m u w b c P n need false ready noted marked (cover e)
+    by_test false e =
+        (let none = no_mark m.mark e in
+        none_kept m.mark c (classes_in m) (classes_in (edited_to u w false c)) none
+        (still_none (classes_in u) P n u.mark b c (ready.notes ∙ none) noted marked))
+
+-- so where those were noted that the other map of a merge knows
 pub marked_merge : (m u : Map) (w : Tree) (b c : Option Held) (d : Events) (P : Voxel → Type 0)
     (n need : ℕ) → IsReadied m u need → IsSameNoted u.mark b → HasMarked (classes_in u) P n b c
     → IsEdited u.tree w d
     → (IsTrue (is_some m.mark) → (k : Voxel) → IsInMap k → IsSome (d k) → P k)
     → KeepsMark m (edited_to u w false c)
-marked_merge m u w b c d P n need ready noted marked edited asked = by_test (is_some m.mark) refl
-  where
-    by_test : (test : Bool) → is_some m.mark ≡ test → KeepsMark m (edited_to u w false c)
-    by_test true e = marked_edit m u w b c d P n need false ready noted marked edited (asked e)
-    by_test false e =
-        (let none = no_mark m.mark e in
-        none_kept m.mark c (classes_in m) (classes_in (edited_to u w false c)) none
-        (still_none (classes_in u) P n u.mark b c (ready.notes ∙ none) noted marked))
+marked_merge m u w b c d P n need ready noted marked edited asked =
+    marked_given m u w b c P n need ready noted marked
+    (λ there. edit_cover u w c d P false edited (asked there))
 
 -- there was no room for the notes of the box around what the other map knows
 pub lacks_given : (mark : Option Held) (noted extent : Option Window)

@@ -37,6 +37,7 @@ ghost use Rattle.oct_map.specs.Edits.{entries_of};
 ghost use Rattle.oct_map.specs.Edits.{fitted_groups};
 
 mod copying;
+mod keeping;
 mod loading;
 mod marking;
 mod merging;

@@ -51,8 +51,8 @@ impl OccMap {
         self.merge_pruned(other, noted, rule)
     }
 
-    /// The least box around what the other map knows, where a mark stands.
-    fn box_to_note(&self, other: &OccMap) -> Result<Option<Window>, MapFault>
+    /// The least box around what the other map, or this one, knows, where a mark stands.
+    pub(super) fn box_to_note(&self, other: &OccMap) -> Result<Option<Window>, MapFault>
         ensures answer { (extent : Option Window) → IsKnownBox other.now extent
             → result ≡ note_answer (is_some self.now.mark) extent }
         ensures covers { IfOk result (λ noted. IsTrue (is_some self.now.mark) → (k : Voxel)
