@@ -1,5 +1,5 @@
 -- What a call does to a map that has an event for some voxels: an edit of one, or a scan.
-use Rattle.std.specs.Prelude.{◌≡◌, ℕ, ◌+◌, ◌≤◌, nat_lt, ◌||◌, ◌⊎◌, Bool, IsTrue, if◌then◌else◌}
+use Rattle.std.specs.Prelude.{◌≡◌, ℕ, ◌+◌, ◌*◌, ◌≤◌, nat_lt, ◌||◌, ◌⊎◌, Bool, IsTrue, if◌then◌else◌}
 use Rattle.oct_key.specs.Values.{SameValues}
 use Rattle.oct_values.specs.Counts.{group_count}
 use Rattle.oct_values.specs.Events.{Events, updated}
@@ -13,6 +13,8 @@ use Rattle.oct_scan.specs.Beam.{Sighting}
 use Rattle.oct_map.specs.declared.fault.MapFault.{MapFault}
 use Rattle.oct_map.specs.declared.fault.MapFault.TheVariants.{Full}
 use Rattle.oct_map.specs.Map.{Map, HasRoomFor, values_of, ground_of}
+use Rattle.oct_map.specs.Answers.{edit_need}
+use Rattle.oct_map.specs.Notes.{HasRoomForNotes}
 use Rattle.oct_map.specs.Outcome.{outcome_of, need_of}
 
 -- the events of a scan in this map
@@ -88,6 +90,13 @@ pub record ReservesFew (m n : Map) (need : ℕ) : Type 0 where
   pub few : (entries_of n ≡ entries_of m)
       ⊎ ((entries_of n ≤ fitted_groups m need + need + 1023)
       × (entries_of n ≤ m.max_groups + 1023))
+
+-- A map is sure of this many edits of one voxel each: it can make the groups that they may need
+-- without taking memory and without being pruned, and can note the class of each voxel.
+pub record IsSureOf (m : Map) (count : ℕ) : Type 0 where
+  pub entries : edit_need * count ≤ spare m.tree.groups
+  pub groups : HasRoomFor m (edit_need * count)
+  pub notes : HasRoomForNotes m.mark count
 
 -- working word: what pruning leaves of a map beside its groups: ground, values, flag and mark are
 -- as they were, inner values that are right stay right, and a pruned tree stays pruned

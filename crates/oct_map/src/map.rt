@@ -1,6 +1,6 @@
 //! The map that a robot keeps: edited, scanned into and asked by points, within its limits.
 ghost use Rattle.std.specs.Prelude.{◌≡◌, ℕ, ◌+◌, ◌^◌, ◌<◌, ◌≤◌, ◌⊎◌, ◌&&◌, nat_lt, pos, ◌≤ℤ◌, ◌<ℤ◌};
-ghost use Rattle.std.specs.Prelude.{false, IsTrue, [], All, Some, None, is_some, IsSome, IfSome};
+ghost use Rattle.std.specs.Prelude.{true, false, IsTrue, [], All, Some, None, is_some, IsSome, IfSome};
 ghost use Rattle.std.specs.Prelude.{Ok, Err, IsOk, OnOk, OnErr, IfOk, IfErr};
 ghost use Rattle.oct_key.specs.CubeOf.{cube_of};
 ghost use Rattle.oct_key.specs.Voxel.{Voxel, IsInMap, key_at};
@@ -33,7 +33,7 @@ ghost use Rattle.oct_map.specs.Marks.{KeepsMark};
 ghost use Rattle.oct_map.specs.Lists.{list_answer};
 ghost use Rattle.oct_map.specs.Edits.{outcome_in, scan_need, IsMapEdited, IsMapRefused, IsRoomy};
 ghost use Rattle.oct_map.specs.Edits.{IsReadied, KeepsAllElse, LacksEntries, ReservesFew};
-ghost use Rattle.oct_map.specs.Edits.{entries_of};
+ghost use Rattle.oct_map.specs.Edits.{entries_of, IsSureOf};
 ghost use Rattle.oct_map.specs.Edits.{fitted_groups};
 
 mod copying;
@@ -173,6 +173,8 @@ impl OccMap {
         ensures mark { KeepsMark self.old self.new }
         ensures noted { NotesFew self.old.mark self.new.mark
             (event_at (key_at self.old.tree.res p) event) 1 }
+        ensures sure { (count : ℕ) → IsSureOf self.old (count + 1)
+            → IsSome (key_at self.old.tree.res p) → IsOk result × IsSureOf self.new count }
         ensures setup { ground_of self.new ≡ ground_of self.old }
         ensures map { IsMap self.new }
     {
@@ -185,6 +187,20 @@ impl OccMap {
         touch(&mut self.tree, k, event, lazy);
         self.is_stale |= lazy;
         Ok(())
+    }
+
+    /// Whether the map is sure of this many edits of one voxel each: one after another, none of
+    /// them is refused but for a point outside the map, and none takes memory.
+    pub fn is_sure_of(&self, count: u32) -> bool
+        ensures sure { result ≡ true → IsSureOf self.now count }
+        ensures unsure { result ≡ false → IsSureOf self.now count → ⊥ }
+        ensures map { IsMap self.now }
+    {
+        let need = EDIT_NEED * u128::from(count);
+        let arena = self.tree.arena();
+        need <= u128::from(arena.spare())
+            && u128::from(arena.live()) + need <= u128::from(self.limits.max_groups)
+            && self.mark.has_room(u64::from(count))
     }
 
     /// Applies the event to each voxel of the box whose corners are the voxels that hold the two

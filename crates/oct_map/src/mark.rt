@@ -1,6 +1,6 @@
 //! The mark of a map.
 ghost use Rattle.std.specs.Prelude.{◌≡◌, ◌+◌, ◌<◌, ◌^◌, ◌⊎◌, length, [], Option, None, Some};
-ghost use Rattle.std.specs.Prelude.{is_some, IsOk, OnOk, OnErr, IfOk, option_map};
+ghost use Rattle.std.specs.Prelude.{is_some, IsOk, OnOk, OnErr, IfOk, option_map, true, false};
 ghost use Rattle.std.specs.Prelude.{All, Contains};
 ghost use Rattle.oct_brick.specs.Bricks.{IsBrick};
 ghost use Rattle.oct_brick.specs.Voxels.{hit_voxels, freed_voxels};
@@ -9,6 +9,7 @@ ghost use Rattle.oct_key.specs.Boxes.{IsBox, IsInBox, box_volume};
 ghost use Rattle.oct_values.specs.Classes.{classes_of};
 ghost use Rattle.oct_change.specs.Changes.{changes_between};
 ghost use Rattle.oct_map.specs.Notes.{HasRoomForNotes, IsSameNoted, IsRoomMade, HasMarked};
+ghost use Rattle.oct_map.specs.Notes.{LacksNotes};
 ghost use Rattle.oct_map.specs.Notes.{NotesFew, marked_by_notes, notes_of, note_room};
 ghost use Rattle.oct_map.specs.Merges.{IsInGiven, given_events, given_volume};
 ghost use Rattle.oct_change.specs.Held.{Held};
@@ -87,6 +88,17 @@ impl Mark {
         match &self.changes {
             Some(changes) => u128::from(changes.len()) + u128::from(changes.spare()),
             None => 0,
+        }
+    }
+
+    /// Whether there is room for n notes, where a mark stands.
+    pub(crate) fn has_room(&self, n: u64) -> bool
+        ensures room { result ≡ true → HasRoomForNotes self.now n }
+        ensures lacks { result ≡ false → LacksNotes self.now n }
+    {
+        match &self.changes {
+            Some(changes) => n <= changes.spare(),
+            None => true,
         }
     }
 
