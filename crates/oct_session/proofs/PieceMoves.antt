@@ -1,5 +1,5 @@
 -- Moves over the bytes of a script, and at its end.
-use Rattle.std.proofs.Common.{◌≡◌, ℕ, ◌+◌, ◌-◌, ◌<◌, ◌≤◌, List, [], ◌∷◌, ◌++◌, Option, Some, None}
+use Rattle.std.proofs.Common.{◌≡◌, ℕ, ◌+◌, ◌<◌, ◌≤◌, List, [], ◌∷◌, ◌++◌, Option, Some, None}
 use Rattle.std.proofs.Common.{inl, inr, refl, sym, ap, subst, ◌∙◌, arith, append_assoc, append-nil}
 use Rattle.std.proofs.Common.{length-append}
 use Rattle.std.proofs.Common.{Result, Ok, Err, IsErrAnd, length, take, drop, false, true}
@@ -7,7 +7,7 @@ use Rattle.std.proofs.Common.{true≢false, Bool}
 use Rattle.std.proofs.Common.{cond}
 use Rattle.std.specs.Prelude.{option_map}
 use Rattle.std.proofs.Math.Seq.{take-add}
-use Rattle.std.proofs.lemmas.List.{take-append-drop, take_all, length-take}
+use Rattle.std.proofs.lemmas.List.{take-append-drop, take_all, length-take, length-drop}
 use Rattle.oct_io.specs.Files.{Files}
 use Rattle.oct_io.proofs.Appending.{appended_nil}
 use Rattle.oct_io.specs.Counts.{IsWriteCounted, IsMakingCounted}
@@ -20,7 +20,7 @@ use Rattle.oct_io.specs.declared.stop.Stop.{Stop}
 use Rattle.oct_script.specs.Lines.{Line, LineSoFar, IsReading, HasEnded, HasJoined, unread}
 use Rattle.oct_script.specs.Lines.{ended_lines, all_lines, last_line, rest_of}
 use Rattle.oct_session.specs.Moments.{Moment, IsCounted, IsDone, Passes, Makes, Answer}
-use Rattle.oct_session.specs.Moments.{IsReady, Take, Rest, End, Closes}
+use Rattle.oct_session.specs.Moments.{Take, Rest, End, Closes}
 use Rattle.oct_session.specs.Moments.{HasRoom, fault_in}
 use Rattle.oct_session.specs.Session.{progress}
 use Rattle.oct_session.specs.Standing.{IsHeldAt, IsAt}
@@ -195,19 +195,14 @@ takes_within piece rest i why a b c is p q =
     (ap (λ x. take i piece ++ x) is ∙ take-append-drop i piece)
     (takes_join (take i piece) rest a b c (Some why) p q)
 
--- the session is ready for the next line of a piece
-pub takes_ready : {F : Type 0} (piece : List ℕ) (i : ℕ) (a b : Moment F) → i < length piece
-    → HasRoom a.session (length piece) → b.session.has_quit ≡ false
-    → Makes (Take (take i piece)) a b None → IsReady b.session
-takes_ready piece i a b less room running p =
-    let rest : HasRoom b.session (length piece - i) = p.to.0.0 (length piece - i) (record {
-      held = room.held;
-      few = omega (arith, room.few, length-take i piece, less);
-    }) in
-    record {
-      running = running;
-      room = record { held = rest.held; few = omega (arith, rest.few, less) };
-    }
+-- the session has room for the rest of a piece
+pub takes_roomy : {F : Type 0} (piece rest : List ℕ) (i : ℕ) (a b : Moment F) → i < length piece
+    → rest ≡ drop i piece → HasRoom a.session (length piece)
+    → Makes (Take (take i piece)) a b None → HasRoom b.session (length rest)
+takes_roomy piece rest i a b less is room p = p.to.0.0 (length rest) (record {
+  held = room.held;
+  few = omega (arith, room.few, length-take i piece, length-drop i piece, ap length is, less);
+})
 
 -- what is held behind some bytes is written
 pub takes_flushed : {K F T : Type 0} (ghosts : sink.Ghosts K) (xs : List ℕ) (a m : Moment F)

@@ -14,5 +14,6 @@ pub mod Leaving
 pub mod Standing
 pub mod Moments
 pub mod MapMemory
+pub mod Ahead
 pub mod Building
 pub mod Drill

@@ -6,7 +6,7 @@ use Rattle.std.specs.Prelude.{OnOk, OnErr}
 use Rattle.oct_io.specs.Counts.{IsWriteCounted, IsMakingCounted, IsAskCounted}
 use Rattle.oct_io.specs.FaultCounts.{IsAsked}
 use Rattle.oct_io.specs.Files.{Files}
-use Rattle.oct_io.specs.Stops.{stop_of_store, status_of, IsHalt}
+use Rattle.oct_io.specs.Stops.{stop_of_sink, stop_of_store, status_of, IsHalt}
 use Rattle.oct_io.specs.Taken.{IsCutOff}
 use Rattle.oct_io.specs.Told.{Rose, appended}
 use Rattle.oct_io.specs.declared.sink.Sink as sink
@@ -16,9 +16,10 @@ use Rattle.oct_io.specs.declared.stop.Stop.TheVariants as stop
 use Rattle.oct_io.specs.declared.store.Store as store
 use Rattle.oct_io.specs.declared.store.StoreFault.{StoreFault}
 use Rattle.oct_map.specs.Map.{Map}
-use Rattle.oct_script.specs.Lines.{Line, ended_lines, all_lines}
+use Rattle.oct_script.specs.Lines.{Line, unread, ended_lines, all_lines}
 use Rattle.oct_script.specs.declared.reply.Reply.{Reply}
 use Rattle.oct_script.specs.declared.verbs.FileVerb.{FileVerb}
+use Rattle.oct_session.specs.Ahead.{AreEdits}
 use Rattle.oct_session.specs.Commands.{FileWork, command_on, may_change, named_in, asks_for}
 use Rattle.oct_session.specs.Commands.{verb_work, Puts}
 use Rattle.oct_session.specs.FileCommands.{save_reply}
@@ -33,6 +34,7 @@ use Rattle.oct_session.specs.Standing.{Seat, seated, desk_of, KeepsStanding, Add
 use Rattle.oct_session.specs.Standing.{TakesLine, FailsLine, HoldsLine, HaltsLine, TakesHeld}
 use Rattle.oct_session.specs.Standing.{HaltsHeld, Halts, Reaches, HaltsAtEnd, Takes, StopsIn}
 use Rattle.oct_session.specs.Standing.{IsInStep, IsCutBy, IsResting, Finishes, Ends}
+use Rattle.oct_session.specs.declared.ahead.VoxelEdit.{VoxelEdit}
 use Rattle.oct_session.specs.declared.context.Context.{Context}
 use Rattle.oct_session.specs.declared.lines.Parsed.{Parsed}
 use Rattle.oct_session.specs.declared.scan_block.ScanBlock.{ScanBlock}
@@ -261,6 +263,19 @@ ClosesTo s t old new short None = (t.text.items ≡ []) × ((w : Option (List �
     → IsInStep t (closed p) × (new ≡ appended w (closed p).text))
 ClosesTo s t old new short (Some fault) = (w : Option (List ℕ)) (p : Progress) → IsInStep s p
     → old ≡ appended w p.text → IsCutBy p (closed p) w new short fault
+
+-- the session stands between two lines, goes on, and holds no reply, with no block open
+pub record IsBetweenLines (session : Session) : Type 0 where
+  pub running : session.has_quit ≡ false
+  pub closed : session.block ≡ None
+  pub empty : session.text.items ≡ []
+  pub line : session.line ≡ unread
+
+-- a call that answers these edits: wherever lines say them, it takes these
+abbrev pub AnswersEdits : {F : Type 0} → List VoxelEdit → Moment F → Moment F → Option SinkFault
+    → Type 0
+AnswersEdits edits a b fault = (bytes : List ℕ) → IsBetweenLines a.session → AreEdits bytes edits
+    → Makes (Take bytes) a b (option_map stop_of_sink fault)
 
 -- a call that closes the script
 pub record Closes {K T : Type 0} (ghosts : sink.Ghosts K) (s : Session) (old : K) (t : Session)

@@ -1,10 +1,12 @@
 //! What commands do to the map, and what they answer.
-ghost use Rattle.std.specs.Prelude.{◌≡◌, ◌≢◌, OnErr, IfOk, Option, Some, IsSome, Err};
+ghost use Rattle.std.specs.Prelude.{◌≡◌, ◌≢◌, ℕ, ◌+◌, OnErr, IfOk, Option, Some, IsSome, Ok, Err};
 ghost use Rattle.oct_odds.specs.Odds.{odds_of};
 ghost use Rattle.oct_odds.specs.Update.{IsSmallEvent};
+ghost use Rattle.oct_map.specs.Edits.{IsSureOf};
 ghost use Rattle.oct_map.specs.Map.{Map};
 ghost use Rattle.oct_map.specs.declared.fault.MapFault.{MapFault};
 ghost use Rattle.oct_script.specs.Commands.{IsSmallEdit};
+ghost use Rattle.oct_session.specs.Ahead.{IsPlaced, order_of};
 ghost use Rattle.oct_session.specs.History.{edit_event};
 ghost use Rattle.oct_session.specs.Commands.{cast_reply, get_reply, list_reply, value_reply};
 ghost use Rattle.oct_session.specs.Kinds.{IsSmallOrder};
@@ -14,6 +16,7 @@ ghost use Rattle.oct_session.specs.Standing.{HasScanned, HasTold, Tells};
 ghost use Rattle.oct_session.specs.MapMemory.{OrderTakesMemory, QuestionTakesMemory};
 ghost use Rattle.oct_session.specs.MapMemory.{BlockTakesMemory};
 
+use crate::ahead::VoxelEdit;
 use crate::kinds::{Order, Question};
 use crate::scan_block::{PendingScan, ScanBlock};
 use oct_cast::Cast;
@@ -115,6 +118,20 @@ fn acknowledge(done: Result<(), MapFault>, reply: &mut Option<Reply>) -> Result<
         }
         Err(fault) => refuse(fault, reply),
     }
+}
+
+/// Has the map do an edit that it is sure of.
+pub fn edit_surely(map: &mut OccMap, edit: VoxelEdit)
+    requires sure { (count : ℕ) × IsSureOf map.old (count + 1) }
+    requires placed { IsPlaced map.old.tree.res edit }
+    ensures done { HasCarriedOut map.old map.new (order_of edit) (Ok tt) }
+    ensures sure { (count : ℕ) → IsSureOf map.old (count + 1) → IsSureOf map.new count }
+    ensures res { map.new.tree.res ≡ map.old.tree.res }
+{
+    let event = event_of(&map.tree().odds(), edit.e);
+    let Ok(()) = map.edit(edit.p, event, edit.lazy) else {
+        unreachable!();
+    };
 }
 
 /// Has the map do something, and puts its reply in its place. Without memory nothing was done.

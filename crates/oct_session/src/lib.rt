@@ -38,13 +38,15 @@
 //! `oct_script` find the lines in them. `lines` reads a line and says what it does, inside a block
 //! and outside; `kinds` tells the commands apart, once, by what does them; `scan_block` keeps the
 //! scan that is being read; `commands` has the map do what it's ordered and answer what it's asked;
-//! `files` saves, loads and restores. `buffer` keeps the replies that aren't written yet; map,
-//! store, sink and the handle of memory go from call to call as one `Context`.
+//! `files` saves, loads and restores. `buffer` keeps the replies that aren't written yet, and
+//! `ahead` reads edits that come one after another, whose replies are written together; map, store,
+//! sink and the handle of memory go from call to call as one `Context`.
 //! `building` writes the file of a script's map in place of the replies, and `drilling` four lines
 //! about the session over a script that `oct_gen` makes. `oct_tasks` and `oct_promise` stand on
 //! this crate.
 #![tactic(auto)]
 
+mod ahead;
 mod buffer;
 mod building;
 mod commands;

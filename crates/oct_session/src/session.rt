@@ -1,13 +1,17 @@
 //! A session between two bytes of its script, and what its lines do to it.
-ghost use Rattle.std.specs.Prelude.{◌≡◌, ◌<◌, ◌≤◌, ◌^◌, [], length, OnOk, IfOk, false};
+ghost use Rattle.std.specs.Prelude.{◌≡◌, ◌+◌, ◌<◌, ◌≤◌, ◌^◌, [], length, OnOk, IfOk, All, false};
 ghost use Rattle.oct_script.specs.Lines.{unread, Line};
 ghost use Rattle.oct_script.specs.Replies.{is_refusal};
+ghost use Rattle.oct_map.specs.Edits.{IsSureOf};
+ghost use Rattle.oct_session.specs.Ahead.{IsPlaced};
+ghost use Rattle.oct_session.specs.Moments.{AnswersEdits};
 ghost use Rattle.oct_session.specs.Moments.{seen, HasParsed, Answers, fault_in, IsReady, HasRoom};
 ghost use Rattle.oct_session.specs.Moments.{Does, Answer, Take, Rest, End, taken_of, Closes};
 ghost use Rattle.oct_session.specs.Parsed.{IsSmallLine};
 ghost use Rattle.oct_session.specs.ScanBlock.{end_reply};
 ghost use Rattle.oct_session.specs.Standing.{IsFresh};
 
+use crate::ahead::{MOST_AHEAD, Run, VoxelEdit, begun, do_edits, may_begin, oks, write_counted};
 use crate::buffer::{append_reply, flush, flush_before_change, flush_if_full};
 use crate::context::Context;
 use crate::lines::{Parsed, take_line};
@@ -161,6 +165,78 @@ impl Session {
         Ok(fed.taken)
     }
 
+    /// Answers the lines of edits that the map is sure of: writes their replies, and does each edit
+    /// whose reply was begun.
+    fn answer_edits<K: Sink, F: Store>(
+        &mut self,
+        context: &mut Context<'_, K, F>,
+        edits: &[VoxelEdit],
+    ) -> Result<(), SinkFault>
+        requires few { length edits.now ≤ MOST_AHEAD }
+        requires room { self.old.line_count + length edits.now < 2 ^ 63 }
+        requires sure { IsSureOf context.old.map.now (length edits.now) }
+        requires placed { All (IsPlaced context.old.map.now.tree.res) edits.now }
+        ensures answers { AnswersEdits edits.now (seen K.Sink F.Store context.old self.old)
+            (seen K.Sink F.Store context.new self.new) (fault_in result) }
+        ensures running { self.new.has_quit ≡ self.old.has_quit }
+    {
+        let mut told = 0usize;
+        let written = write_counted(context.sink, oks(edits.len()), &mut told);
+        let (front, _) = edits.split_at(begun(told, edits.len()));
+        do_edits(context.map, front);
+        self.line_count += front.len() as u64;
+        written
+    }
+
+    /// Takes lines at the front of a piece that say edits, as many as can be answered together, and
+    /// returns how many bytes were taken.
+    fn take_edits<K: Sink, F: Store>(
+        &mut self,
+        context: &mut Context<'_, K, F>,
+        piece: &[u8],
+    ) -> Result<usize, Stop>
+        requires running { self.old.has_quit ≡ false }
+        requires room { HasRoom self.old (length piece.now) }
+        requires unended { self.old.line.has_ended ≡ false }
+        ensures does { Does K.Sink F.Store (Take (taken_of result piece.now)) context.old self.old
+            context.new self.new result }
+        ensures within { IfOk result (λ n. n ≤ length piece.now) }
+        ensures running { OnOk result (self.new.has_quit ≡ false) }
+    {
+        if self.block.is_some() || !may_begin(piece) {
+            return Ok(0);
+        }
+        let mut run = Run::new();
+        run.read(context.map, &self.line, piece);
+        if run.edits.is_empty() {
+            return Ok(0);
+        }
+        flush(&mut self.text, context.sink)?;
+        self.answer_edits(context, &run.edits)?;
+        Ok(run.taken)
+    }
+
+    /// Takes lines of edits at the front of a piece, where there are some that can be answered
+    /// together, and else the bytes up to and with the next line feed, and answers what it takes.
+    fn take_next<K: Sink, F: Store>(
+        &mut self,
+        context: &mut Context<'_, K, F>,
+        piece: &[u8],
+    ) -> Result<usize, Stop>
+        requires running { self.old.has_quit ≡ false }
+        requires room { HasRoom self.old (length piece.now) }
+        requires some { (self.old.line.has_ended ≡ false) × (0 < length piece.now) }
+        ensures does { Does K.Sink F.Store (Take (taken_of result piece.now)) context.old self.old
+            context.new self.new result }
+        ensures within { IfOk result (λ n. (0 < n) × (n ≤ length piece.now)) }
+    {
+        let taken = self.take_edits(context, piece)?;
+        if taken > 0 {
+            return Ok(taken);
+        }
+        self.advance(context, piece)
+    }
+
     /// Takes a piece of the script, and answers each line that ends in it, up to a `quit`. Then all
     /// replies are written.
     pub fn take<K: Sink, F: Store>(
@@ -177,7 +253,7 @@ impl Session {
         let mut taken = 0;
         while taken < piece.len() && !self.has_quit {
             let (_, rest) = piece.split_at(taken);
-            taken += self.advance(context, rest)?;
+            taken += self.take_next(context, rest)?;
         }
         flush(&mut self.text, context.sink)?;
         Ok(())

@@ -3,7 +3,7 @@ use Rattle.oct_session.proofs.session.Session.take.Goals.{then-loop-taken-test+e
 use Rattle.oct_session.proofs.session.Session.take.Goals.{else-loop-taken-test}
 use Rattle.oct_session.specs.Moments.{seen}
 use Rattle.oct_session.proofs.Moves.{makes_on}
-use Rattle.oct_session.proofs.PieceMoves.{takes_none, takes_ready, takes_next, takes_within}
+use Rattle.oct_session.proofs.PieceMoves.{takes_none, takes_roomy, takes_next, takes_within}
 use Rattle.oct_session.proofs.PieceMoves.{takes_flushed, takes_unflushed, takes_part, takes_quit}
 use Rattle.oct_session.proofs.PieceMoves.{takes_whole}
 use Rattle.oct_session.proofs.session.Session.take.Goals as goal
@@ -14,10 +14,10 @@ loop-taken-init g c = record {
   takes = takes_none _ c.args.piece.now;
 }
 
-pub advance-requires-clause-ready : goal.advance-requires-clause-ready
-advance-requires-clause-ready g c =
-    takes_ready c.args.piece.now c.loop-taken.taken _ _ c.loop-taken-test.true c.requires.room
-    c.if-not-self.true c.loop-taken.invariant.takes
+pub take_next-requires-clause-room : goal.take_next-requires-clause-room
+take_next-requires-clause-room g c =
+    takes_roomy c.args.piece.now _ c.loop-taken.taken _ _ c.loop-taken-test.true
+    c.split_at.ensures.back c.requires.room c.loop-taken.invariant.takes
 
 pub loop-taken-preserved : goal.loop-taken-preserved
 loop-taken-preserved g c = record {
