@@ -1,7 +1,7 @@
 #!/usr/bin/env python3
 """Counts how often a session writes, and talks to one line by line. Fails where the replies to the
-questions of one read are written by more writes than they need, where two edits share a write, or
-where a reply isn't there before the next line is asked.
+questions of one read are written by more writes than they need, where more than sixteen edits share
+a write, or few do, or where a reply isn't there before the next line is asked.
 
     tests/writes.py [--program FILE]
 
@@ -21,6 +21,7 @@ PROGRAM = options.program(__doc__)
 SESSION = [PROGRAM, "session", "0.1"]
 MOST_READ = 16 * 1024
 MOST_HELD = 4096
+MOST_AHEAD = 16
 LINES = 20_000
 PATIENCE = 10
 failed = 0
@@ -56,11 +57,13 @@ def few_writes(line, reply):
         b"".join(writes) == replies and len(writes) <= most, len(writes))
 
 
-def one_write_each(line, reply):
-    """An edit many times over: a write for each, before the next one is done."""
-    writes = writes_of(line * LINES)
-    say(f"{LINES} times {line.decode().rstrip()!r} take as many writes",
-        writes == [reply] * LINES, len(writes))
+def few_together(line, reply):
+    """An edit many times over: those in a row share a write, no more than sixteen of them."""
+    script, most = line * LINES, LINES // MOST_AHEAD + 2 * (len(line) * LINES // MOST_READ + 1)
+    writes = writes_of(script)
+    say(f"{LINES} times {line.decode().rstrip()!r} take at most {most} writes, by {MOST_AHEAD}",
+        b"".join(writes) == reply * LINES and len(writes) <= most
+        and max(map(len, writes)) <= MOST_AHEAD * len(reply), len(writes))
 
 
 def changes_in_order():
@@ -92,7 +95,7 @@ def dialogue():
 def main():
     few_writes(b"get 1 0 0 16\n", b"unknown\n")
     few_writes(b"cast 0 0 0 1 0 0\n", b"cast unknown 32768 32768 32768\n")
-    one_write_each(b"hit 0 0 0\n", b"ok\n")
+    few_together(b"hit 0 0 0\n", b"ok\n")
     changes_in_order()
     dialogue()
     sys.exit(failed != 0)

@@ -36,7 +36,7 @@ fn options(max_bytes: u64) -> Result<Options, Fail>
         res: Res::new(100_000_000)?,
         odds: OddsModel::default(),
         limits: Limits {
-            max_groups: 64,
+            max_groups: 1000,
             max_cells: 1000,
         },
         max_bytes,

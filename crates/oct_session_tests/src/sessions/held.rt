@@ -47,8 +47,9 @@ fn expect_cut(rt: &impl Abort, alloc: Global, number: u64) -> Result<(), Fail> {
     Ok(())
 }
 
-// In pieces of 7 bytes, 22 bytes of replies are written before the second edit, 37 before the
-// refresh, 3 before each of the next two changes, and 18 at the end of the read: 15 writes.
+// In pieces of 7 bytes, 22 bytes of replies are written before the second edit, then its own 3, 34
+// before the refresh, 3 before the third edit, then its own 3, and 18 at the end of the read: 15
+// writes.
 #[test]
 fn a_change_waits_for_the_reply_before_it(rt: HostRuntime) -> Result<(), Fail> {
     for number in 1u64..=15 {
@@ -123,6 +124,82 @@ fn replies_are_held_up_to_their_limit_and_within_one_read(rt: HostRuntime) -> Re
         (5, (Status::Done, 10_400)),
     ] {
         expect_held(&rt, rt.alloc(), number, want)?;
+    }
+    Ok(())
+}
+
+/// An edit of 10 bytes, 300 times.
+fn edits(alloc: Global) -> Result<FileBytes, Memory> {
+    let mut bytes = FileBytes::new(alloc);
+    for _ in 0u64..300 {
+        bytes.extend_from_slice(b"hit 0 0 0\n")?;
+    }
+    Ok(bytes)
+}
+
+/// Expects how many bytes a session on these edits has written when its write of this number fails.
+fn expect_together(
+    rt: &impl Abort,
+    alloc: Global,
+    number: u64,
+    want: (Status, usize),
+) -> Result<(), Fail> {
+    let mut source = MemorySource::new(edits(alloc)?, 100_000);
+    let mut sink = FailingSink::new(alloc, 100_000, only(alloc, number)?);
+    let (status, _) = ended_alone(alloc, 20_000, &mut source, &mut sink)?;
+    assert_eq!(rt; (status, sink.written().len()), want, "write {number}");
+    Ok(())
+}
+
+// The first edit takes memory, so it stands alone. Of the 299 others 16 share a write, and the last
+// 11: with the first reply these are 20 writes.
+#[test]
+fn edits_that_take_no_memory_share_a_write(rt: HostRuntime) -> Result<(), Fail> {
+    let fault = Status::WriteFault;
+    for (number, want) in [
+        (1, (fault, 0)),
+        (2, (fault, 3)),
+        (3, (fault, 51)),
+        (20, (fault, 867)),
+        (21, (Status::Done, 900)),
+    ] {
+        expect_together(&rt, rt.alloc(), number, want)?;
+    }
+    Ok(())
+}
+
+/// An edit that takes memory, and five that are answered together, each of which changes voxel 0.
+const RUN: &str = "hit 0.1 0 0\nmiss 0 0 0\nmiss 0 0 0\nmiss 0 0 0\nmiss 0 0 0\nmiss 0 0 0\n";
+
+/// The value of voxel 0 after each of the six lines.
+const VALUES: &[Option<i32>] = &[
+    None,
+    Some(-400),
+    Some(-800),
+    Some(-1200),
+    Some(-1600),
+    Some(-2000),
+];
+
+/// Expects that a session that writes byte by byte, and whose write of this number fails, leaves
+/// the map as it is after the line whose reply was cut off.
+fn expect_run_cut(rt: &impl Abort, alloc: Global, number: u64) -> Result<(), Fail> {
+    let mut source = script(alloc, RUN, 100)?;
+    let mut sink = FailingSink::new(alloc, 1, only(alloc, number)?);
+    let (status, map) = ended_alone(alloc, 1000, &mut source, &mut sink)?;
+    expect_status(rt, status, Status::WriteFault);
+    let after = VALUES.get(lines_in(sink.written()));
+    assert!(rt; after.is_some(), "write {number}");
+    if let Some(origin) = after {
+        expect_map(rt, &map, *origin, Some(850), false);
+    }
+    Ok(())
+}
+
+#[test]
+fn each_edit_whose_reply_was_begun_is_done(rt: HostRuntime) -> Result<(), Fail> {
+    for number in 1u64..=18 {
+        expect_run_cut(&rt, rt.alloc(), number)?;
     }
     Ok(())
 }
