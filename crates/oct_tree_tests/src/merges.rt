@@ -28,7 +28,7 @@ fn worlds(alloc: Global) -> Result<(OccTree, OccTree), Fail>
 }
 
 /// Sets each voxel of a box where there is room for it.
-fn paint(rt: &impl Abort, tree: &mut OccTree, lo: Key, hi: Key, event: Event)
+pub(crate) fn paint(rt: &impl Abort, tree: &mut OccTree, lo: Key, hi: Key, event: Event)
     requires formed { IsWellFormed tree.old }
     requires small { IsSmallEvent event }
     ensures formed { IsWellFormed tree.new }

@@ -1,0 +1,3 @@
+pub mod Shifted
+pub mod Moving
+pub mod Moved
