@@ -43,6 +43,7 @@ mod marking;
 mod merging;
 mod restoring;
 mod saving;
+mod shifting;
 mod surveying;
 
 use crate::done::ScanDone;
