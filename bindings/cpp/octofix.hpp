@@ -196,6 +196,16 @@ class map {
                                     &named),
                       named);
     }
+    /// The same of the other map moved by this many voxels on each axis: a voxel takes what the
+    /// other map has that far behind it. The other map stays as it is.
+    void merge_shifted(const map &other, std::int32_t dx, std::int32_t dy, std::int32_t dz,
+                       rule by = rule::first) {
+        if (this == &other) return merge_shifted(other.copy(), dx, dy, dz, by);
+        details named{};
+        detail::check(octofix_merge_shifted(&handle_, &other.handle_,
+                                            static_cast<std::uint32_t>(by), &named, dx, dy, dz),
+                      named);
+    }
     /// Prunes the map, and counts the least tree of its values.
     [[nodiscard]] octofix::counts counts() {
         octofix::counts least{};

@@ -252,6 +252,54 @@ static void try_stale_merges(void) {
     octofix_close(&map);
 }
 
+/* Two voxels side by side of another map, moved by 1, -2 and 3 voxels, beside one that stays. */
+static void try_shifted_merge(void) {
+    octofix_map map = opened(&default_odds, &default_limits);
+    octofix_map other = opened(&default_odds, &default_limits);
+    const octofix_point p = at(50, 50, 50), q = at(150, 50, 50), r = at(250, -150, 350);
+    const octofix_point s = at(150, -150, 350);
+    int32_t value = 0;
+    EXPECT(octofix_edit(&map, &s, OCTOFIX_SET, -400, false, &details), 0);
+    EXPECT(octofix_edit(&other, &p, OCTOFIX_SET, 850, true, &details), 0);
+    EXPECT(octofix_edit(&other, &q, OCTOFIX_SET, 7, true, &details), 0);
+    EXPECT_DETAILS(octofix_merge_shifted(&map, &other, OCTOFIX_GREATEST, &details, 1, -2, 3), 0, 0,
+                   0);
+    EXPECT(octofix_get(&map, &s, 16, &value), 0);
+    EXPECT(value, 850);
+    EXPECT(octofix_get(&map, &r, 0, &value), 0);
+    EXPECT(value, 850);
+    EXPECT(octofix_get(&map, &r, 16, &value), 0);
+    EXPECT(value, 7);
+    EXPECT(octofix_get(&map, &p, 16, &value), 42);
+    EXPECT(octofix_get(&other, &p, 16, &value), 0);
+    EXPECT(value, 850);
+    expect_stale(&other, true);
+    octofix_close(&other);
+    octofix_close(&map);
+}
+
+/* The voxels 32768 and 32769 may move by -32768 to 32766. In one block of depth 15 they need 16
+ * groups, and else 17. */
+static void try_refused_shifts(void) {
+    const octofix_limits few = {16, 100};
+    octofix_map map = opened(&default_odds, &few), other = opened(&default_odds, &default_limits);
+    octofix_map closed = {0};
+    const octofix_point p = at(50, 50, 50), q = at(150, 50, 50);
+    int32_t value = 0;
+    EXPECT(octofix_edit(&other, &p, OCTOFIX_SET, 850, false, &details), 0);
+    EXPECT(octofix_edit(&other, &q, OCTOFIX_SET, 850, false, &details), 0);
+    EXPECT_DETAILS(octofix_merge_shifted(&map, &closed, 0, &details, 0, 0, 0), 40, 0, 0);
+    EXPECT_DETAILS(octofix_merge_shifted(&map, &other, 3, &details, 0, 0, 0), 47, 0, 0);
+    EXPECT_DETAILS(octofix_merge_shifted(&map, &other, 0, &details, -32769, 0, 0), 24, 1, 0);
+    EXPECT_DETAILS(octofix_merge_shifted(&map, &other, 0, &details, 32767, 0, 0), 24, 2, 0);
+    EXPECT_DETAILS(octofix_merge_shifted(&map, &other, 0, &details, 0, INT32_MIN, 0), 24, 1, 0);
+    EXPECT_DETAILS(octofix_merge_shifted(&map, &other, 0, &details, 1, 0, 0), 23, 0, 17);
+    EXPECT(octofix_get(&map, &q, 16, &value), 42);
+    EXPECT_DETAILS(octofix_merge_shifted(&map, &other, 0, &details, -32768, 0, 0), 0, 0, 0);
+    octofix_close(&other);
+    octofix_close(&map);
+}
+
 int main(void) {
     try_one_voxel();
     try_leaves();
@@ -261,6 +309,8 @@ int main(void) {
     try_marked_boxes();
     try_merge_of_unpruned();
     try_stale_merges();
+    try_shifted_merge();
+    try_refused_shifts();
     printf("values: %d failed\n", failed);
     return failed != 0;
 }

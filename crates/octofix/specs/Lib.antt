@@ -25,5 +25,6 @@ pub mod Queries
 pub mod Rays
 pub mod Scans
 pub mod Settings
+pub mod Shifts
 pub mod Sightings
 pub mod Whole

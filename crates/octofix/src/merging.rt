@@ -13,7 +13,7 @@ use oct_merge::Rule;
 use oct_odds::OddsModel;
 
 /// The rule of this number.
-fn rule_of(rule: u32) -> Result<Rule, Refusal>
+pub(crate) fn rule_of(rule: u32) -> Result<Rule, Refusal>
     ensures { result ≡ merges.rule_of rule }
 {
     if rule == 0 {
@@ -36,7 +36,7 @@ fn are_same(a: OddsModel, b: OddsModel) -> bool
 }
 
 /// Refuses another map of another resolution, and then one of other log-odds.
-fn check_alike(map: &OccMap, other: &OccMap) -> Result<(), Refusal>
+pub(crate) fn check_alike(map: &OccMap, other: &OccMap) -> Result<(), Refusal>
     ensures answer { result ≡ alike_answer map.now other.now }
     ensures res { OnOk result (map.now.tree.res ≡ other.now.tree.res) }
     ensures odds { OnOk result (map.now.tree.odds ≡ other.now.tree.odds) }
