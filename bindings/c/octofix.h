@@ -309,6 +309,14 @@ uint32_t octofix_edit(octofix_map *map, const octofix_point *point, uint32_t eve
 uint32_t octofix_edit_box(octofix_map *map, const octofix_point *low, const octofix_point *high,
                           uint32_t event, int32_t number, octofix_details *details);
 
+/* Forgets each voxel outside of the box from the voxel of low to that of high, and changes none in
+ * it. It costs what is known, and takes a group only under each block that the box cuts and that is
+ * known with one value. It isn't lazy, and leaves a stale map stale. While a mark stands, the least
+ * box around what is known has at most 1000000 voxels. Refused: CLOSED, OUTSIDE, BAD_BOX,
+ * WIDE_WHILE_TRACKED, FULL, MEMORY. */
+uint32_t octofix_keep_box(octofix_map *map, const octofix_point *low, const octofix_point *high,
+                          octofix_details *details);
+
 /* Edits, one after another, as octofix_edit does them. It stops at the first that is refused, and
  * answers its code and details; *done is how many were done before it, which is its index, and is
  * written on every code. Refused: CLOSED, else as octofix_edit refuses that one edit: BAD_ARGUMENT

@@ -139,6 +139,11 @@ class map {
                                        number, &named),
                       named);
     }
+    /// Forgets each voxel outside of that box, and changes none in it.
+    void keep_box(const point &low, const point &high) {
+        details named{};
+        detail::check(octofix_keep_box(&handle_, &low, &high, &named), named);
+    }
     /// One edit after another. At the first that isn't done it throws edits_refused, or
     /// edits_out_of_memory.
     void edit_all(view<octofix::edit> edits, bool lazy = false) {

@@ -109,6 +109,7 @@ static void try_closed_handle(void) {
     EXPECT(octofix_memory(&map, &number), 40);
     EXPECT_DETAILS(octofix_edit(&map, &p, 9, INT32_MIN, true, &details), 40, 0, 0);
     EXPECT_DETAILS(octofix_edit_box(&map, &p, &p, 9, INT32_MIN, &details), 40, 0, 0);
+    EXPECT_DETAILS(octofix_keep_box(&map, &p, &p, &details), 40, 0, 0);
     EXPECT_DETAILS(octofix_edit_all(&map, &edit, 1, false, &count, &details), 40, 0, 0);
     EXPECT(count, 0);
     count = 4711; /* which no call after this writes */
@@ -228,6 +229,46 @@ static void try_full(void) {
     EXPECT_DETAILS(octofix_edit_box(&map, &q, &p, OCTOFIX_ADD, 1, &details), 23, 16, 31);
     EXPECT(octofix_scan(&map, &ahead, &far, 1, &no_range, &counted, &details), 23);
     EXPECT(details.first, 16);
+    octofix_close(&map);
+}
+
+static void try_keeps(void) {
+    const octofix_limits few = {16, 100};
+    octofix_map map = opened(&default_odds, &few);
+    const octofix_point p = at(0, 0, 0), q = at(-100, 0, 0), r = at(10000, 10000, 10000);
+    const octofix_point low = at(-3276800, -3276800, -3276800), far = at(3276800, 0, 0);
+    const octofix_point high = at(3276700, 3276700, 3276700);
+    octofix_counts counts;
+    int32_t value;
+    EXPECT_DETAILS(octofix_keep_box(&map, &p, &q, &details), 26, 0, 0);
+    EXPECT_DETAILS(octofix_keep_box(&map, &far, &far, &details), 24, 1, 0);
+    EXPECT_DETAILS(octofix_keep_box(&map, &p, &far, &details), 24, 2, 0);
+    EXPECT_DETAILS(octofix_keep_box(&map, &q, &p, &details), 0, 0, 0); /* nothing is known */
+    EXPECT(octofix_edit_box(&map, &low, &high, OCTOFIX_SET, 700, &details), 0);
+    EXPECT_DETAILS(octofix_keep_box(&map, &low, &high, &details), 0, 0, 0);
+    /* One leaf: the two voxels are in the lower and the upper half of x, 1 + 2 * 15. */
+    EXPECT_DETAILS(octofix_keep_box(&map, &q, &p, &details), 23, 0, 31);
+    EXPECT(octofix_get(&map, &r, 16, &value), 0);
+    EXPECT_DETAILS(octofix_keep_box(&map, &p, &p, &details), 0, 0, 0);
+    EXPECT(octofix_counts_of(&map, &counts), 0);
+    EXPECT(counts.groups, 16);
+    EXPECT(octofix_get(&map, &p, 16, &value), 0);
+    EXPECT(value, 700);
+    EXPECT(octofix_get(&map, &q, 16, &value), 42);
+    EXPECT_DETAILS(octofix_keep_box(&map, &q, &q, &details), 0, 0, 0);
+    EXPECT(octofix_get(&map, &p, 16, &value), 42);
+    octofix_close(&map);
+
+    /* While a mark stands: 101 voxels on each axis are known, as a box. */
+    map = opened(&default_odds, &default_limits);
+    EXPECT(octofix_edit(&map, &p, OCTOFIX_SET, 7, false, &details), 0);
+    EXPECT(octofix_edit(&map, &r, OCTOFIX_SET, 8, false, &details), 0);
+    EXPECT(octofix_track(&map), 0);
+    EXPECT_DETAILS(octofix_keep_box(&map, &p, &p, &details), 27, 101ull * 101 * 101, 0);
+    EXPECT(octofix_untrack(&map), 0);
+    EXPECT_DETAILS(octofix_keep_box(&map, &p, &p, &details), 0, 0, 0);
+    EXPECT(octofix_get(&map, &p, 16, &value), 0);
+    EXPECT(octofix_get(&map, &r, 16, &value), 42);
     octofix_close(&map);
 }
 
@@ -847,6 +888,7 @@ int main(void) {
     try_closed_handle();
     try_edits();
     try_full();
+    try_keeps();
     try_scans();
     try_scans_in_map();
     try_places();

@@ -71,6 +71,10 @@ static uint32_t edit_box(octofix_map *map) {
     const octofix_point low = at(-900, -900, -900), high = at(900, 800, 700);
     return octofix_edit_box(map, &low, &high, OCTOFIX_ADD, 100, &details);
 }
+static uint32_t keep_box(octofix_map *map) {
+    const octofix_point low = at(0, 0, -500), high = at(2000, 900, 900);
+    return octofix_keep_box(map, &low, &high, &details);
+}
 static uint32_t edit_all(octofix_map *map) {
     size_t done = 0;
     const uint32_t code = octofix_edit_all(map, edits, 1, false, &done, &details);
@@ -146,7 +150,7 @@ static uint32_t take_snapshot(octofix_map *map) {
 static uint32_t (*const calls[])(octofix_map *) = {
     scan,   edit,           edit_box, edit_all,  load, restore, clear,        refresh, prune,
     counts, max_likelihood, leaves,   leaves_in, list, save,    list_changes, track,
-    take_snapshot, merge,   leaves_of, scan_in_map, copy};
+    take_snapshot, merge,   leaves_of, scan_in_map, copy, keep_box};
 
 /* A map that is scanned, and tracked where that is wanted. */
 static octofix_map scanned(bool is_tracked) {
@@ -299,6 +303,7 @@ static void refuse_without_memory(void) {
     EXPECT(octofix_edit(&map, &away, OCTOFIX_ADD, 1, false, &details), 23);
     EXPECT(octofix_edit_box(&map, &high, &low, OCTOFIX_ADD, 1, &details), 26);
     EXPECT(octofix_edit_box(&map, &low, &high, OCTOFIX_ADD, 1, &details), 27);
+    EXPECT(octofix_keep_box(&map, &high, &low, &details), 26);
     EXPECT(octofix_scan(&map, &unturned, &low, 1, &no_range, &counted, &details), 5);
     EXPECT(octofix_scan(&map, &ahead, &low, 1, &one_sided, &counted, &details), 4);
     EXPECT(octofix_list(&map, &low, &far, 16, blocks, ROOM, &count, &details), 24);

@@ -322,6 +322,15 @@ void try_grid() {
     EXPECT(code(metres(-3276, -3276, 0), metres(3276, -2000, 0)) == OCTOFIX_WIDE_GRID);
 }
 
+void try_keeping() {
+    octofix::map world(0.1);
+    world.edit_box(metres(0, 0, 0), metres(0.3, 0.3, 0.3), octofix::event::set, 9);
+    world.keep_box(metres(0.3, 0.3, 0.3), metres(9, 9, 9));
+    EXPECT(world.get(metres(0.3, 0.3, 0.3)) == 9);
+    EXPECT(!world.get(metres(0.2, 0.3, 0.3)));
+    EXPECT(code_of([&] { world.keep_box(metres(1, 0, 0), metres(0, 0, 0)); }) == OCTOFIX_BAD_BOX);
+}
+
 void try_voxels() {
     octofix::map world(0.1);
     world.edit_box(metres(0, 0, 0), metres(0.3, 0.3, 0.3), octofix::event::set, 9);
@@ -595,6 +604,7 @@ int main(int, char **words) {
     try_copies();
     try_files(words[1]);
     try_grid();
+    try_keeping();
     try_voxels();
     try_keys();
     try_models();

@@ -2,13 +2,16 @@
 use Rattle.std.specs.Prelude.{◌≡◌, ◌==◌, ℕ, ◌+◌, ◌⊎◌, ◌&&◌, ℤ, pos, neg_ℤ, int_le, Bool}
 use Rattle.std.specs.Prelude.{if◌then◌else◌}
 use Rattle.std.specs.Prelude.{false, is_some, IsSome, List, [], ◌∷◌, ⊤, Some, None}
-use Rattle.std.specs.Prelude.{Result, Ok, Err, IsOk, OnOk, IfErr}
+use Rattle.std.specs.Prelude.{Result, Ok, Err, IsOk, OnOk, IfErr, IfSome}
 use Rattle.oct_edit.specs.Edits.{IsTidyAlong}
 use Rattle.oct_edit.specs.Saturated.{IsSaturated}
 use Rattle.oct_key.specs.Voxel.{Voxel, IsInMap, key_at}
+use Rattle.oct_key.specs.Boxes.{IsBox}
 use Rattle.oct_key.specs.declared.point.Point.{Point}
-use Rattle.oct_map.specs.Answers.{box_answer, box_fault, edit_answer, edit_need, IsAnswerOrMemory}
+use Rattle.oct_map.specs.Answers.{box_answer, box_fault, corner_fault, edit_answer, edit_need}
+use Rattle.oct_map.specs.Answers.{IsAnswerOrMemory}
 use Rattle.oct_map.specs.Edits.{IsMapEdited, IsMapRefused, IsRoomy, LacksEntries, ReservesFew}
+use Rattle.oct_map.specs.Keeps.{IsKept}
 use Rattle.oct_map.specs.Map.{Map, IsMap, ground_of, values_of}
 use Rattle.oct_map.specs.Marks.{KeepsMark}
 use Rattle.oct_map.specs.Notes.{LacksNotes, NotesFew}
@@ -19,7 +22,7 @@ use Rattle.oct_odds.specs.declared.event.Event.{Event}
 use Rattle.oct_odds.specs.declared.event.Event.TheVariants.{Add, Set, Forget, Likely}
 use Rattle.oct_values.specs.Events.{event_at}
 use Rattle.octofix.specs.Changed.{IsAsked}
-use Rattle.octofix.specs.Codes.{refusal_at}
+use Rattle.octofix.specs.Codes.{of_map, refusal_at}
 use Rattle.octofix.specs.Points.{point_of}
 use Rattle.octofix.specs.declared.refusal.Refusal.{Refusal}
 use Rattle.octofix.specs.declared.refusal.Refusal.TheVariants as refusal
@@ -89,6 +92,20 @@ pub record IsBoxEdit (lo hi : Point) (e : Event) (m n : Map) (done : Result ⊤ 
       → OnOk done (IsTidyAlong n.tree k)
   pub ground : ground_of n ≡ ground_of m
   pub map : IsMap n
+
+-- what keeping the box of two points alone makes of a map: where they are the corners of none, it
+-- stays as it is
+pub record IsBoxKept (lo hi : Point) (m n : Map) (done : Result ⊤ MapFault) : Type 0 where
+  pub fault : IfSome (corner_fault (key_at m.tree.res lo) (key_at m.tree.res hi))
+      (λ fault. (done ≡ Err fault) × (n ≡ m))
+  pub kept : (low high : Voxel) → key_at m.tree.res lo ≡ Some low
+      → key_at m.tree.res hi ≡ Some high → IsBox low high → IsKept m n low high done
+  pub map : IsMap n
+
+-- the same as C passes it
+abbrev pub IsKeepAsked : Point → Point → Map → Map → Result ⊤ Refusal → Type 0
+IsKeepAsked lo hi m n answer =
+    (done : Result ⊤ MapFault) × IsBoxKept lo hi m n done × (answer ≡ of_map done)
 
 -- Edits from the i-th on, one after another: each makes of the map what it does alone, up to the
 -- first that is refused, if any, before which this many were done.

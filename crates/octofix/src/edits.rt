@@ -3,7 +3,8 @@ ghost use Rattle.std.specs.Prelude.{◌≡◌, if◌then◌else◌, None, Ok, Er
 ghost use Rattle.oct_odds.specs.Odds.{IsSmall};
 ghost use Rattle.oct_odds.specs.Update.{IsSmallEvent};
 ghost use Rattle.octofix.specs.Changed.{IsAsked, IsDone, IsTold};
-ghost use Rattle.octofix.specs.Edits.{AreEdits, IsBoxEdit, IsPointEdit, event_of, is_small};
+ghost use Rattle.octofix.specs.Edits.{AreEdits, IsBoxEdit, IsKeepAsked, IsPointEdit, event_of};
+ghost use Rattle.octofix.specs.Edits.{is_small};
 ghost use Rattle.octofix.specs.Points.{point_of};
 ghost use Rattle.octofix.specs.declared.refusal.Refusal.TheVariants.{BadArgument};
 
@@ -127,6 +128,36 @@ pub extern "C" fn octofix_edit_box(
         result details.new }
 {
     let answer = edit_box(handle, *low, *high, event, number);
+    *details = details_of(&answer);
+    code_of(&answer)
+}
+
+/// Keeps a box of the map of a handle.
+fn keep_box(handle: &mut Octofix, low: PointNm, high: PointNm) -> Result<(), Refusal>
+    ensures { IsDone handle.old handle.new (IsKeepAsked (point_of low) (point_of high)) result }
+{
+    let map = handle.map_mut()?;
+    map.keep_box(low.point(), high.point())?;
+    Ok(())
+}
+
+/// Forgets each voxel outside of the box whose corners hold the two points, and keeps those in it,
+/// both corners included.
+///
+/// It is refused where the handle has no map, for a point outside the map, for corners of which the
+/// first lies beyond the second, for more than 1,000,000 voxels in the least box around what the
+/// map knows while a mark stands, where the map is full, and where memory runs out.
+#[unsafe(no_mangle)]
+pub extern "C" fn octofix_keep_box(
+    handle: &mut Octofix,
+    low: &PointNm,
+    high: &PointNm,
+    details: &mut Details,
+) -> u32
+    ensures { IsTold handle.old handle.new
+        (IsKeepAsked (point_of low.now) (point_of high.now)) result details.new }
+{
+    let answer = keep_box(handle, *low, *high);
     *details = details_of(&answer);
     code_of(&answer)
 }
