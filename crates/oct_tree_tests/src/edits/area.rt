@@ -1,9 +1,9 @@
-//! Boxes of equal events, with the groups and values that they leave.
+//! Boxes of equal events, and boxes that are kept, with the groups and values that they leave.
 ghost use Rattle.oct_odds.specs.Update.{IsSmallEvent};
 ghost use Rattle.oct_tree.specs.Shape.{IsWellFormed};
 
 use super::checks::{expect_small, expect_tidy};
-use crate::boxes::{all, apply, world};
+use crate::boxes::{all, apply, keep, world};
 use oct_odds::Event;
 use oct_tree::OccTree;
 use std::process::Abort;
@@ -73,6 +73,57 @@ fn applies_events_to_boxes(rt: HostRuntime) -> Result<(), Fail> {
     let mut tree = world(rt.alloc(), 300)?;
     expect_edits(&rt, &mut tree, EDITS);
     // A box keeps what is known, so that later edits can end early.
+    expect_tidy(&rt, &tree, true);
+    Ok(())
+}
+
+/// The numbers of a box's corners, the groups that it takes to keep it, and those afterwards, and
+/// the values of two voxels.
+type Kept = (u16, u16, u128, u32, Option<i32>, Option<i32>);
+
+/// Of nothing.
+const KEPT_OF_NOTHING: &[Kept] = &[(5, 9, 0, 0, None, None)];
+
+/// Of one leaf, in turn: the whole map, eight voxels around its middle, one of them, and a voxel
+/// beside all that is known.
+const KEPT_IN_TURN: &[Kept] = &[
+    (0, 65_535, 0, 0, Some(850), Some(850)),
+    (32_767, 32_768, 121, 121, Some(850), None),
+    (32_767, 32_767, 0, 16, Some(850), None),
+    (5, 5, 0, 0, None, None),
+];
+
+/// Of one leaf: a single voxel.
+const KEPT_AT_ONCE: &[Kept] = &[(32_767, 32_767, 16, 16, Some(850), None)];
+
+/// Keeps a box, and expects what a row says.
+fn expect_kept(rt: &impl Abort, tree: &mut OccTree, row: Kept)
+    requires { IsWellFormed tree.old }
+    ensures { IsWellFormed tree.new }
+{
+    let (low, high, need, groups, value, beside) = row;
+    keep(rt, tree, all(low), all(high), need);
+    expect_state(rt, tree, groups, value, beside);
+}
+
+/// Keeps each box, and expects what its row says.
+fn expect_keeps(rt: &impl Abort, tree: &mut OccTree, cases: &[Kept])
+    requires { IsWellFormed tree.old }
+    ensures { IsWellFormed tree.new }
+{
+    for row in cases {
+        expect_kept(rt, tree, *row);
+    }
+}
+
+#[test]
+fn keeps_boxes(rt: HostRuntime) -> Result<(), Fail> {
+    let mut tree = world(rt.alloc(), 300)?;
+    expect_keeps(&rt, &mut tree, KEPT_OF_NOTHING);
+    apply(&rt, &mut tree, all(0), all(65_535), Event::Set(850));
+    expect_keeps(&rt, &mut tree, KEPT_IN_TURN);
+    apply(&rt, &mut tree, all(0), all(65_535), Event::Set(850));
+    expect_keeps(&rt, &mut tree, KEPT_AT_ONCE);
     expect_tidy(&rt, &tree, true);
     Ok(())
 }
