@@ -66,15 +66,21 @@ def cloud(number, standing, columns):
     return (ways[is_met] * lengths[:, None]).astype(np.float32)
 
 
-def save(folder, scans, columns):
-    """Writes the drive; the names of the clouds, one for each scan in turn."""
+def write(folder, scans, columns):
+    """Writes the poses of the drive, and the cloud of each place."""
     os.makedirs(folder, exist_ok=True)
     with open(f"{folder}/poses.txt", "w") as poses:
         for number in range(scans):
             poses.write(f"{number} {STEP * number} 0 {HEIGHT} 0 0 0 1\n")
-    standing, names = boxes(), []
+    standing = boxes()
     for number in range(min(scans, PLACES)):
         np.save(f"{folder}/{number:03}.npy", cloud(number, standing, columns))
+
+
+def save(folder, scans, columns):
+    """Writes the drive; the names of the clouds, one for each scan in turn."""
+    write(folder, scans, columns)
+    names = []
     for number in range(scans):
         names.append(f"{folder}/{number:05}.scan.npy")
         # (a file counts once)
