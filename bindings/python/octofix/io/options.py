@@ -102,50 +102,69 @@ def add_scans(parser, on_error=STOP_OR_SKIP, is_optional=False):
     )
     clouds.required = not is_optional
     form = parser.add_argument_group("how clouds are read")
-    form.add_argument(
-        "--format", choices=[*FORMS], metavar="FORM",
-        help=f"where the file doesn't show it: {', '.join(FORMS)}",
-    )  # fmt: skip
-    form.add_argument(
-        "--columns", type=columns, metavar="X,Y,Z",
-        help="which columns are x, y and z: names or numbers (from 1)",
-    )  # fmt: skip
-    form.add_argument(
-        "--columns-of-bin", type=records, metavar="N[f|d]",
-        help="how many columns a .bin has, of four bytes each (f) or eight (d)",
-    )  # fmt: skip
-    form.add_argument("--array", metavar="NAME", help="which array of an .npz, where several fit")
-    form.add_argument(
-        "--camera", type=finite, nargs=4, metavar=("FX", "FY", "CX", "CY"),
-        help="make points of depth images: focal lengths and centre, in pixels",
-    )  # fmt: skip
-    form.add_argument(
-        "--depth-scale", type=units, metavar="N",
-        help="how many units of depth are a metre: 1000 for mm, 5000 for TUM's",
-    )  # fmt: skip
-    form.add_argument(
-        "--scale", type=positive, metavar="S", help="metres in a unit of points: 0.001 for mm (1)"
-    )
-    form.add_argument(
-        "--every", type=whole(1, 10**9), default=1, metavar="N", help="each Nth point"
-    )
-    form.add_argument(
-        "--min-range", type=length, default=0.0, metavar="M", help="no points nearer than this"
-    )
-    form.add_argument("--range", type=length, metavar="M", help="cut beams that are longer")
-    form.add_argument("--voxel", type=length, metavar="M", help="one point a voxel of this edge")
-    form.add_argument(
-        "--on-error", choices=[*on_error], default=next(iter(on_error)),
-        help="with a cloud or a pose that can't be used "
-        + "; ".join(f"'{it}' {said}" for it, said in on_error.items())
-        + f" ({next(iter(on_error))})",
-    )  # fmt: skip
+    _add_forms(form)
+    _add_images(form)
+    _add_choice(form)
+    _add_faults(form, on_error)
     parser.add_argument("--quiet", action="store_true", help="say faults alone, show no bar")
-    _add_poses(parser.add_argument_group("where the sensor stood"))
+    where = parser.add_argument_group("where the sensor stood")
+    _add_poses(where)
+    _add_times(where)
+    _add_frames(where)
     bags = parser.add_argument_group("ROS 1 bags")
     bags.add_argument("--topic", help="the topic of PointCloud2, where there are several")
     bags.add_argument("--pose-topic", metavar="TOPIC", help="poses: Odometry, PoseStamped, ..")
     bags.add_argument("--frame", help="poses by tf: the frame of the map")
+
+
+def _add_forms(group):
+    group.add_argument(
+        "--format", choices=[*FORMS], metavar="FORM",
+        help=f"where the file doesn't show it: {', '.join(FORMS)}",
+    )  # fmt: skip
+    group.add_argument(
+        "--columns", type=columns, metavar="X,Y,Z",
+        help="which columns are x, y and z: names or numbers (from 1)",
+    )  # fmt: skip
+    group.add_argument(
+        "--columns-of-bin", type=records, metavar="N[f|d]",
+        help="how many columns a .bin has, of four bytes each (f) or eight (d)",
+    )  # fmt: skip
+    group.add_argument("--array", metavar="NAME", help="which array of an .npz, where several fit")
+
+
+def _add_images(group):
+    group.add_argument(
+        "--camera", type=finite, nargs=4, metavar=("FX", "FY", "CX", "CY"),
+        help="make points of depth images: focal lengths and centre, in pixels",
+    )  # fmt: skip
+    group.add_argument(
+        "--depth-scale", type=units, metavar="N",
+        help="how many units of depth are a metre: 1000 for mm, 5000 for TUM's",
+    )  # fmt: skip
+
+
+def _add_choice(group):
+    group.add_argument(
+        "--scale", type=positive, metavar="S", help="metres in a unit of points: 0.001 for mm (1)"
+    )
+    group.add_argument(
+        "--every", type=whole(1, 10**9), default=1, metavar="N", help="each Nth point"
+    )
+    group.add_argument(
+        "--min-range", type=length, default=0.0, metavar="M", help="no points nearer than this"
+    )
+    group.add_argument("--range", type=length, metavar="M", help="cut beams that are longer")
+    group.add_argument("--voxel", type=length, metavar="M", help="one point a voxel of this edge")
+
+
+def _add_faults(group, on_error):
+    first = next(iter(on_error))
+    group.add_argument(
+        "--on-error", choices=[*on_error], default=first,
+        help="with a cloud or a pose that can't be used "
+        + "; ".join(f"'{it}' {said}" for it, said in on_error.items()) + f" ({first})",
+    )  # fmt: skip
 
 
 def _add_poses(group):
@@ -165,6 +184,9 @@ def _add_poses(group):
         "--pose", nargs=7, type=finite, metavar=("X", "Y", "Z", "QW", "QX", "QY", "QZ"),
         help="one pose for all clouds",
     )  # fmt: skip
+
+
+def _add_times(group):
     group.add_argument(
         "--by-time", action="store_true", help="take poses by the times in the names of the clouds"
     )
@@ -180,6 +202,9 @@ def _add_poses(group):
         help="by times, a pose between the two around each (this is done without, too)",
     )  # fmt: skip
     how.add_argument("--nearest", action="store_true", help="by times, the nearest pose as it is")
+
+
+def _add_frames(group):
     group.add_argument(
         "--sensor", nargs=7, type=finite, metavar=("X", "Y", "Z", "QW", "QX", "QY", "QZ"),
         help="how the sensor is mounted on what the poses are of",

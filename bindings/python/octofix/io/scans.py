@@ -1,5 +1,7 @@
 """Clouds made scans: points chosen, turned and placed, in whole nanometres."""
 
+from __future__ import annotations
+
 import contextlib
 import copy
 from dataclasses import dataclass
@@ -34,9 +36,9 @@ class Choice:
 
     every: int = 1
     nearest: float = 0.0
-    voxel: float = None
-    scale: float = None
-    reach: float = None
+    voxel: float | None = None
+    scale: float | None = None
+    reach: float | None = None
 
 
 @dataclass(frozen=True)
@@ -48,7 +50,7 @@ class Frames:
     mount: Pose = IDENTITY
     turn: Pose = IDENTITY
     is_world: bool = False
-    origin: tuple = None
+    origin: tuple | None = None
 
 
 @dataclass

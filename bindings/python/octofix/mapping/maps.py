@@ -1,5 +1,7 @@
 """Maps from files: .bt, snapshots, and .ot where octofix-ot is there."""
 
+from __future__ import annotations
+
 import shutil
 import subprocess
 from dataclasses import dataclass
@@ -88,9 +90,9 @@ class Blocks:
     as words of a Map, else None, and where its origin lies, as a PlacedMap has it."""
 
     leaves: Leaves
-    values: np.ndarray
-    odds: dict
-    origin: tuple
+    values: np.ndarray | None
+    odds: dict | None
+    origin: tuple | None
 
 
 def read_blocks(name, kind="known"):

@@ -1,5 +1,7 @@
 """Clouds of a ROS 1 bag: a topic of PointCloud2, with poses by odometry or tf."""
 
+from __future__ import annotations
+
 import contextlib
 import io
 from dataclasses import dataclass, field, replace
@@ -23,9 +25,9 @@ class Topics:
     which tf says where the sensor is, and which of these poses is near enough. What tf says goes on
     from one to another of the `bags`, each of which is read once for that."""
 
-    clouds: str = None
-    poses: str = None
-    frame: str = None
+    clouds: str | None = None
+    poses: str | None = None
+    frame: str | None = None
     nearness: Nearness = Nearness()
     bags: tuple = ()
     said: dict = field(default_factory=dict, compare=False)

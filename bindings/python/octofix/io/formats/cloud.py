@@ -1,5 +1,7 @@
 """One cloud, as a file has it."""
 
+from __future__ import annotations
+
 from dataclasses import dataclass
 
 import numpy as np
@@ -21,11 +23,11 @@ class RawCloud:
 
     name: str
     points: np.ndarray
-    pose: Pose = None
-    time: float = None
+    pose: Pose | None = None
+    time: float | None = None
     notes: tuple = ()
-    gap: str = None
-    cut: str = None
+    gap: str | None = None
+    cut: str | None = None
     is_optical: bool = False
 
 

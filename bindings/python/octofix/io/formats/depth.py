@@ -1,5 +1,7 @@
 """Depth images: PNG of 16 bits, and NumPy's .npy, made points of a pinhole camera."""
 
+from __future__ import annotations
+
 import io
 import warnings
 from dataclasses import dataclass
@@ -29,7 +31,7 @@ class Camera:
     fy: float
     cx: float
     cy: float
-    units: float = None
+    units: float | None = None
 
     def points(self, depths):
         """The points of an image, (rows x columns, 3) in metres, row by row. Where nothing was

@@ -1,5 +1,7 @@
 """Which reader takes a file."""
 
+from __future__ import annotations
+
 import contextlib
 import gzip
 import os
@@ -60,13 +62,13 @@ class Reading:
     no byte is a cloud of no point; the Records of a .bin, the name of an array of an .npz, and the
     Camera of depth images, or None. What was read for later is kept by the names of files."""
 
-    form: str = None
-    columns: list = None
+    form: str | None = None
+    columns: list | None = None
     bag: bags.Topics = bags.Topics()
     allows_empty: bool = False
-    records: Records = None
-    array: str = None
-    camera: depth.Camera = None
+    records: Records | None = None
+    array: str | None = None
+    camera: depth.Camera | None = None
     kept: dict = field(default_factory=dict, compare=False)
 
 

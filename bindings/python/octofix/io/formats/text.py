@@ -1,5 +1,7 @@
 """Text with the coordinates of a point in each line: XYZ, CSV and the like."""
 
+from __future__ import annotations
+
 import re
 from dataclasses import dataclass, field
 
@@ -55,9 +57,9 @@ class _Front:
 
     length: int = 0
     lines: int = 0
-    named: _Heading = None
+    named: _Heading | None = None
     comments: list = field(default_factory=list)
-    delimiter: str = None
+    delimiter: str | None = None
     first: str = ""
     width: int = 3
 
