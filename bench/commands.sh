@@ -2,8 +2,8 @@
 # Counts the instructions of commands at voxels of 5 cm, on the map of 5 scans of 500 points (edits:
 # on an empty one), and fails where a limit is exceeded: those of an edit, a query, a block that a
 # list looks at, a cast, and a byte of a file and of a snapshot. Instructions don't show what the
-# system takes for the replies, so the time of a session's edits stands beside that of a build, which
-# writes no reply. Needs python3 and valgrind.
+# system takes for the replies, so the time of a session's edits stands beside that of a build,
+# which writes no reply. Needs python3 and valgrind.
 
 set -eu
 

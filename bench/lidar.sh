@@ -65,7 +65,8 @@ instructions() {
 
 # The same against those of the other one.
 counted() {
-    awk "BEGIN { printf \"%.3f\", $(instructions "$program" "$1") / $(instructions "$before" "$1") }"
+    own=$(instructions "$program" "$1")
+    awk "BEGIN { printf \"%.3f\", $own / $(instructions "$before" "$1") }"
 }
 
 expect '89,446 points in random directions, seconds' "$(timed random)" 0.66

@@ -4,10 +4,11 @@ counts what the library's insertion of five scans of 500 points takes.
 
     tests/library.py [--program FILE] [WORD ..]
 
-The words are a command in place of the program, as 'python3 tests/model'. Needs the library with its tools and headers, and g++ and valgrind (on Debian and
-Ubuntu: octomap-tools, liboctomap-dev, g++, valgrind). Fails where a file is read as another map
-than it is. It says how many voxels the two know otherwise where both insert the same scans; that is
-no fault, since the library steps along a beam in floating point.
+The words are a command in place of the program, as 'python3 tests/model'. Needs the library with
+its tools and headers, and g++ and valgrind (on Debian and Ubuntu: octomap-tools, liboctomap-dev,
+g++, valgrind). Fails where a file is read as another map than it is. It says how many voxels the
+two know otherwise where both insert the same scans; that is no fault, since the library steps along
+a beam in floating point.
 """
 import os
 import re

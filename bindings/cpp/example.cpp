@@ -11,10 +11,12 @@ namespace {
 
 void say(const char *what, std::optional<std::int32_t> value) {
     std::cout << what << ": ";
-    if (value)
-        std::cout << *value << " (" << std::lround(100 * octofix::probability_of(*value)) << " %)\n";
-    else
+    if (!value) {
         std::cout << "unknown\n";
+        return;
+    }
+    const long percent = std::lround(100 * octofix::probability_of(*value));
+    std::cout << *value << " (" << percent << " %)\n";
 }
 
 void scan(octofix::map &world) {

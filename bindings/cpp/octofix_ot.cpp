@@ -2,8 +2,8 @@
 //
 //     octofix-ot <MAP.ot >MAP.snap
 //
-// The tools of octofix call it for such files, where it is on the path. Ends with 1, and one line on
-// standard error, where it can't read or write. Needs liboctomap:
+// The tools of octofix call it for such files, where it is on the path. Ends with 1, and one line
+// on standard error, where it can't read or write. Needs liboctomap:
 //
 //     c++ -O2 -std=c++17 octofix_ot.cpp $(pkg-config --cflags --libs octofix octomap) -o octofix-ot
 #include <octofix_octomap.hpp>

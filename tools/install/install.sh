@@ -4,10 +4,11 @@
 #     tools/install/install.sh HOW PREFIX PROGRAM ARCHIVE VERSION [LAYOUT [MODULE]]
 #
 # HOW is proved or unproved; what isn't proved gets names of its own. ARCHIVE is what the kit made
-# of the library, beside which octofix.wasm stands, and VERSION what the installed command answers to
-# --version. LAYOUT is debian where PREFIX is the folder usr of Debian; else, with none or prefix, all
-# finds its files from where it stands. MODULE is the compiled module of the Python package; else it
-# is compiled here, and where it can't be, the package and its tools aren't installed.
+# of the library, beside which octofix.wasm stands, and VERSION what the installed command answers
+# to --version. LAYOUT is debian where PREFIX is the folder usr of Debian; else, with none or
+# prefix, all finds its files from where it stands. MODULE is the compiled module of the Python
+# package; else it is compiled here, and where it can't be, the package and its tools aren't
+# installed.
 
 root=$(dirname -- "$(readlink -f -- "$0")")/../.. && . "$root/tools/install/words.sh" || exit 1
 parts=$root/tools/install
@@ -64,8 +65,8 @@ put_program() {
     printf '%s\n' "$version" >"$room/version" && put 644 "$room/version" "$home/version"
     put 755 "$parts/command.sh" "bin/octomap$suffix"
     # (a hyphen is a minus, as it is typed)
-    help | sed 's/-/\\-/g' >"$room/help" &&
-        sed -e "/^@HELP@/r $room/help" -e '/^@HELP@/d' "$root/docs/octomap.1" >"$room/text" || exit 1
+    help | sed 's/-/\\-/g' >"$room/help" || exit 1
+    sed -e "/^@HELP@/r $room/help" -e '/^@HELP@/d' "$root/docs/octomap.1" >"$room/text" || exit 1
     put 644 "$room/text" share/man/man1/octomap.1
     put_completions
 }
@@ -155,9 +156,10 @@ put_tool_words() {
 }
 
 put_documents() {
-    for it in docs/FORMATS docs/LIBRARY docs/PROMISES docs/RECIPES docs/SCALING docs/TOOLS CHANGELOG; do
-        put 644 "$root/$it.md" "share/doc/octofix/$(basename "$it").md"
+    for it in FORMATS LIBRARY PROMISES RECIPES SCALING TOOLS; do
+        put 644 "$root/docs/$it.md" "share/doc/octofix/$it.md"
     done
+    put 644 "$root/CHANGELOG.md" share/doc/octofix/CHANGELOG.md
     put 644 "$root/bindings/python/README.md" share/doc/octofix/PYTHON.md
     put 644 "$root/LICENSE" share/doc/octofix/LICENSE
 }

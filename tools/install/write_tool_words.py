@@ -3,9 +3,9 @@
 
     write_tool_words.py FOLDER
 
-writes FOLDER/octofix.1, octofix.bash and _octofix (for zsh). Needs numpy, the package on PYTHONPATH,
-and OCTOFIX_LIBRARY or another place where that finds the library. The page is as old as the newest
-version in CHANGELOG.md.
+writes FOLDER/octofix.1, octofix.bash and _octofix (for zsh). Needs numpy, the package on
+PYTHONPATH, and OCTOFIX_LIBRARY or another place where that finds the library. The page is as old as
+the newest version in CHANGELOG.md.
 """
 
 import re

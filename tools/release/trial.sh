@@ -193,7 +193,8 @@ try_tarball() {
     expect 'octofix through a link' "octofix $number" "$("$room/home/octofix" --version 2>&1)"
     expect 'octomap through a link' "octomap $number" \
         "$("$room/home/octomap" --version | sed -n '1s/ (.*//p')"
-    mkdir "$room/none" && echo 'import sys; sys.modules["numpy"] = None' >"$room/none/sitecustomize.py"
+    mkdir "$room/none" &&
+        echo 'import sys; sys.modules["numpy"] = None' >"$room/none/sitecustomize.py"
     expect 'octofix without numpy' \
         'octofix: no python3 with numpy is here (in Debian python3-numpy)' \
         "$(PYTHONPATH=$room/none octofix --version 2>&1)"

@@ -386,7 +386,8 @@ static void try_places(void) {
 static void try_refused_places(void) {
     const int64_t wide = 10000000000000000;
     octofix_pose pose = {{0, 0, wide}, 0, 0, 0, 0};
-    const octofix_point points[] = {{wide - 1, 1 - wide, wide - 1}, {0, -wide, 0}, {INT64_MIN, 0, 0}};
+    const octofix_point points[] = {
+        {wide - 1, 1 - wide, wide - 1}, {0, -wide, 0}, {INT64_MIN, 0, 0}};
     octofix_point places[2] = {{4711, 0, 0}, {4711, 0, 0}};
     EXPECT_DETAILS(octofix_place(&pose, points, 3, places, 2, &details), 47, 0, 0);
     pose.at.z = 1 - wide;
@@ -394,7 +395,8 @@ static void try_refused_places(void) {
     EXPECT_DETAILS(octofix_place(&pose, points, 1, places, 0, &details), 5, 0, 0);
     pose.w = INT16_MIN;
     EXPECT_DETAILS(octofix_place(&pose, points + 1, 2, places, 2, &details), 47, 0, 0);
-    EXPECT_DETAILS(octofix_place(&pose, points, 1, places, 0, &details), OCTOFIX_SMALL_BUFFER, 0, 0);
+    EXPECT_DETAILS(octofix_place(&pose, points, 1, places, 0, &details), OCTOFIX_SMALL_BUFFER, 0,
+                   0);
     EXPECT(places[0].x, 4711);
     EXPECT_DETAILS(octofix_place(&pose, points, 1, places, 2, &details), 0, 0, 0);
     expect_place(places[0], (octofix_point){wide - 1, 1 - wide, 0});

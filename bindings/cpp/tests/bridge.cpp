@@ -56,7 +56,8 @@ class drawer {
 
 octofix::map drawn(unsigned seed) {
     drawer draw(seed);
-    const octofix::odds odds = {847, -405, draw.number(-3000, -2000), 3511, draw.number(-1, 1) * 200};
+    const octofix::odds odds = {847, -405, draw.number(-3000, -2000), 3511,
+                                draw.number(-1, 1) * 200};
     octofix::map map(0.1, odds);
     for (int i = draw.number(0, 60); i > 0; --i) {
         const octofix::point a = draw.place(), b = draw.place();

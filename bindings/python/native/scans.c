@@ -136,9 +136,9 @@ const PyMethodDef scan_methods[] = {
          "turned by `quaternion` (w, x, y, z), of any length, or has a 4 x 4 matrix of both as\n"
          "`origin` alone; points are turned in double. `octofix.measured` has those of a cloud in\n"
          "which some aren't finite. A beam that is longer than `range` metres is cut there, and\n"
-         "hits nothing. `hit` and `miss` are log-odds of this scan alone. A lazy scan leaves depths\n"
-         "below 16 to `refresh`. The scan is done whole or refused: 4, 5, 6, 7 (`index`), 8\n"
-         "(`index`, `cells`) or 23. A Ctrl-C that comes meanwhile is taken when it is done, as\n"
+         "hits nothing. `hit` and `miss` are log-odds of this scan alone. A lazy scan leaves\n"
+         "depths below 16 to `refresh`. The scan is done whole or refused: 4, 5, 6, 7 (`index`),\n"
+         "8 (`index`, `cells`) or 23. A Ctrl-C that comes meanwhile is taken when it is done, as\n"
          "`Interrupted`."),
     FAST(scan_from,
          "scan_from($self, origin, points, range=None, *, hit=None, miss=None, lazy=False)\n--\n\n"

@@ -160,8 +160,8 @@ class Written(Maps):
             ran = self.map("-o", "a.bt")
         finally:
             subprocess.run(["umount", "a.bt"], check=True)
-        said = "a.bt: it is mounted by itself, so it was written in place and not at once: what ends "
-        said += "the machine meanwhile leaves a part of it"
+        said = "a.bt: it is mounted by itself, so it was written in place and not at once: what "
+        said += "ends the machine meanwhile leaves a part of it"
         self.assertEqual(ran.said, f"octofix: {said}\n")
         self.assertEqual((content_of("inside.bt"), content_of("a.bt")), (self.wanted, OLD_MAP))
 

@@ -297,8 +297,8 @@ class Counts(Inputs):
             self.is_refused(said, bad)
 
     def test_ply_with_many_lists(self):
-        """Behind the vertices 400,000 triangles, then four corners, then a triangle: in well below a
-        second."""
+        """Behind the vertices 400,000 triangles, then four corners, then a triangle: in well below
+        a second."""
         head = PLY.format("binary_little_endian 1.0") + "element face 400002\n"
         head += "property list uchar short corners\nend_header\n"
         triangle = b"\x03" + bytes(6)

@@ -52,7 +52,8 @@ class InTurn(InFolder):
         rows = "0 1 2 3 0 0 0 1\n1 1 2 4.5 0 0 0 1.0"
         said = "octofix: poses:2: the last line has no end (LF), so the file may have been cut\n"
         clouds = DATA / "corner.pcd", DATA / "corner.xyz"
-        for cut, wanted in ((rows, said), (rows[:-2], said), (rows + "\n", ""), (rows + "\n# 2", "")):
+        whole = (rows + "\n", ""), (rows + "\n# 2", "")
+        for cut, wanted in ((rows, said), (rows[:-2], said), *whole):
             with open("poses", "w") as file:
                 file.write(cut)
             words = "map", "--res", "0.1", "--quiet", "--poses", "poses", *clouds, "-o", "a.bt"

@@ -192,7 +192,8 @@ class Again(Runs):
     def test_parts_of_several_pieces(self):
         with mock.patch.object(plans, "LEAST", 1):
             self.build()
-        with open("town/" + json.loads(content_of("town/index.json")[0])["runs"][0]["file"]) as file:
+        index = json.loads(content_of("town/index.json")[0])
+        with open("town/" + index["runs"][0]["file"]) as file:
             self.assertEqual(len(json.load(file)["plan"]["chunks"]), 4)
         self.as_one_process(self.words)
 
