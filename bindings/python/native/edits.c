@@ -177,6 +177,14 @@ static PyObject *map_edit_box(ARGUMENTS) {
     Py_RETURN_NONE;
 }
 
+static PyObject *map_keep(ARGUMENTS) {
+    TAKE("keep", 2, 2, "low", "high");
+    octofix_point at[2];
+    if (take_corners(at, w[0], w[1]) < 0) return NULL;
+    CHANGE(self, NULL, library.keep_box(&self->handle, &at[0], &at[1], &named));
+    Py_RETURN_NONE;
+}
+
 /* Boxes from points to points in nanometres, with a number each, up to the first that is refused;
  * all three as buffers of int64. */
 static PyObject *map_edit_boxes_in(map *self, PyObject *args) {
@@ -209,13 +217,18 @@ static PyObject *map_edit_boxes_in(map *self, PyObject *args) {
 static PyObject *map_merge(map *self, PyObject *args) {
     PyObject *other;
     unsigned rule;
-    if (!PyArg_ParseTuple(args, "OI", &other, &rule)) return NULL;
+    int by[3];
+    if (!PyArg_ParseTuple(args, "OIiii", &other, &rule, &by[0], &by[1], &by[2])) return NULL;
     if (!is_map(other) || (map *)other == self) {
         PyErr_SetString(PyExc_TypeError, "another map is merged");
         return NULL;
     }
     map *second = (map *)other;
-    CHANGE(self, second, library.merge(&self->handle, &second->handle, rule, &named));
+    const bool is_moved = by[0] || by[1] || by[2];
+    CHANGE(self, second,
+           is_moved ? library.merge_shifted(&self->handle, &second->handle, rule, &named, by[0],
+                                            by[1], by[2])
+                    : library.merge(&self->handle, &second->handle, rule, &named));
     Py_RETURN_NONE;
 }
 
@@ -254,8 +267,8 @@ const PyMethodDef edit_methods[] = {
          "Edits the voxels that hold `points`, (n, 3) in metres, one after another.\n\n"
          "`event`, an `Event`, and `number`, in thousandths, are one for all points or (n,);\n"
          "beside `FORGET` and `LIKELY` a number means nothing. A lazy edit leaves depths below 16\n"
-         "to `refresh`. Where point `index` is refused (23, 24), those before it are done, and none\n"
-         "after it; so where `OutOfMemory` is raised with an `index`."),
+         "to `refresh`. Where point `index` is refused (23, 24), those before it are done, and\n"
+         "none after it; so where `OutOfMemory` is raised with an `index`."),
     FAST(set, "set($self, points, number, *, lazy=False)\n--\n\n"
               "Gives `number` to the voxels that hold `points`, (n, 3), as `edit`."),
     FAST(add, "add($self, points, number, *, lazy=False)\n--\n\n"
@@ -270,6 +283,11 @@ const PyMethodDef edit_methods[] = {
          "edit_box($self, low, high, event, number=0)\n--\n\n"
          "Edits each voxel from that of the point `low` to that of `high`, both included.\n\n"
          "Refused: 23, 24 (`point`), 26, and 27 (`count`) while a mark stands."),
+    FAST(keep, "keep($self, low, high)\n--\n\n"
+               "Forgets each voxel but those from that of the point `low` to that of `high`.\n\n"
+               "The map prunes itself where it needs the room. Refused: 24 (`point`), 26, 23, and\n"
+               "27 (`count`) while a mark stands and the least box around what the map knows has\n"
+               "more than 1,000,000 voxels."),
     FAST(limit, "limit($self, low, high)\n--\n\n"
                 "From now on scans change only voxels from that of `low` to that of `high`.\n\n"
                 "Refused: 24 (`point`), 26."),

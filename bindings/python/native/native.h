@@ -50,11 +50,11 @@ static const octofix_details NO_DETAILS = {0, 0};
 /* -- the library: where its calls are, which `setup` is told */
 
 #define LIBRARY_CALLS(X)                                                                           \
-    X(open) X(close) X(settings_of) X(memory) X(edit) X(edit_box) X(edit_all) X(scan)              \
+    X(open) X(close) X(settings_of) X(memory) X(edit) X(edit_box) X(keep_box) X(edit_all) X(scan)  \
     X(scan_in_map) X(limit) X(no_limit) X(window) X(refresh) X(prune) X(clear) X(max_likelihood)   \
-    X(merge) X(counts_of) X(least_tree_of) X(get) X(get_all) X(cast) X(cast_all) X(list)           \
-    X(leaves_of) X(leaves_of_in) X(grid) X(bounds) X(ray) X(track) X(untrack) X(changes) X(save)   \
-    X(load) X(snapshot) X(restore) X(copy)
+    X(merge) X(merge_shifted) X(counts_of) X(least_tree_of) X(get) X(get_all) X(cast) X(cast_all)  \
+    X(list) X(leaves_of) X(leaves_of_in) X(grid) X(bounds) X(ray) X(track) X(untrack) X(changes)   \
+    X(save) X(load) X(snapshot) X(restore) X(copy)
 #define LIBRARY_FIELD(name) __typeof__(&octofix_##name) name;
 typedef struct { LIBRARY_CALLS(LIBRARY_FIELD) } library_calls;
 extern library_calls library;

@@ -274,21 +274,27 @@ class Map(native.Map):
             low, high, number = rows
             self._edit_boxes_in(low, high, int(event), number)
 
-    def merge(self, other: Map, rule: int = Rule.FIRST) -> None:
-        """Takes in what `other`, of the same resolution and log-odds, knows.
+    def merge(
+        self, other: Map, rule: int = Rule.FIRST, shift: npt.ArrayLike = (0, 0, 0)
+    ) -> None:
+        """Takes in what `other`, of the same resolution and log-odds, knows, moved by `shift`,
+        three whole numbers of voxels.
 
         A voxel that one of them knows gets its value, and one that both know the value that `rule`,
-        a `Rule`, takes. `other` keeps its voxels; both are pruned. Where this map is stale it stays
-        so, and whether `other` is doesn't matter. Refused: 35, 48, 23, and 27 (`count`) while a
-        mark stands and the least box around what `other` knows has more than 1,000,000 voxels.
+        a `Rule`, takes. `other` keeps its voxels; this map is pruned, and `other` where it isn't
+        moved. Where this map is stale it stays so, and whether `other` is doesn't matter. Of the
+        least box around what `other` knows, refused is 24 (`point`) where its lowest (1) or its
+        highest corner (2) is moved out of the map, and 27 (`count`) while a mark stands and it has
+        more than 1,000,000 voxels; else 35, 48 and 23.
         """
         if not isinstance(other, Map):
             raise TypeError(f"another Map is merged, and not {other!r}")
         by = _arrays.rule_of_merge(rule)
-        if other is self:
+        steps = _arrays.steps(shift)
+        if other is self and not any(steps):
             self.prune()
             return
-        self._merge(other, by)
+        self._merge(self._copied() if other is self else other, by, *steps)
 
     def counts(self) -> Counts:
         """Prunes the map, and counts the least tree of its values."""

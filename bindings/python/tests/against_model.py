@@ -164,6 +164,11 @@ class Draws:
     def kind(self):
         return self.pick("known", "occupied", "free")
 
+    def shift(self):
+        steps = self.row(3, lambda: self.chance.randint(-9, 9))
+        return self.one((9, steps), (1, np.array(steps)), (1, self.point),
+                        (1, lambda: self.row(3, self.integer)))
+
     def own_odds(self):
         return {
             "hit": lambda: self.pick(None, 5, -5, 0, 2**40, 1.5, np.int32(3)),
@@ -204,7 +209,7 @@ class Draws:
             (2, lambda: ("leaves", (*self.corners(), self.kind()), {})),
             (2, lambda: (self.pick("leaves", "voxels", "bounds"), (), {"kind": self.kind()})),
             (2, lambda: ("grid", self.corners(), {})),
-            (2, lambda: ("limit", self.corners(), {})),
+            (2, lambda: (self.pick("limit", "keep"), self.corners(), {})),
             (12, self.plain_call),
         )  # fmt: skip
 
@@ -221,7 +226,7 @@ class Draws:
         if name == "ray":
             return name, (self.pick(0.1, 0.5, 0, NAN, "x"), self.point(), self.point()), {}
         if name == "merge":
-            return name, (self.pick(*Rule, *Rule, 3, True, 1.0, None),), {}
+            return name, (self.pick(*Rule, *Rule, 3, True, 1.0, None), *self.maybe(self.shift)), {}
         if name == "load":
             return self.pick("load_bt", "load_snapshot"), (self.pick("whole", "part", "none"),), {}
         return name, (), {}

@@ -303,6 +303,7 @@ def calls_of(world):
         lambda it: world.scan(it, quaternion=(1, 1, 1, 1), range=2.5),
         lambda it: world.scan(it, quaternion=(0, 0, 0, 0)), lambda it: world.scan_from(here, it),
         lambda it: world.edit_box(here, it, 1, 5), lambda it: world.grid(here, it),
+        lambda it: world.keep(here, it), lambda it: world.merge(world, shift=it),
         lambda it: world.leaves(here, it), lambda it: world.list(here, it),
         lambda it: octofix.ray(0.1, here, it),
     ]  # fmt: skip

@@ -49,6 +49,7 @@ for it in CALLS:
 def change(world):
     world.edit(HERE, Event.SET, 5)
     world.edit_box(HERE, AHEAD, Event.SET, 5)
+    world.keep(HERE, AHEAD)
     world.set(HERE, 5)
     world.add(HERE, 5)
     world.hit(HERE)

@@ -147,6 +147,9 @@ class Map:
         events = arrays.events_of_edits(event)
         self._do("edit_box", *corners, int(events), int(arrays.numbers_of_edits(number, events)))
 
+    def keep(self, low: Any, high: Any) -> None:
+        self._do("keep_box", arrays.point(low, "low"), arrays.point(high, "high"))
+
     def limit(self, low: Any, high: Any) -> None:
         self._do("limit", arrays.point(low, "low"), arrays.point(high, "high"))
 
@@ -171,14 +174,14 @@ class Map:
     def untrack(self) -> None:
         self._do("untrack")
 
-    def merge(self, other: Any, rule: int = Rule.FIRST) -> None:
+    def merge(self, other: Any, rule: int = Rule.FIRST, shift: Any = (0, 0, 0)) -> None:
         if not isinstance(other, Map):
             raise TypeError(f"another Map is merged, and not {other!r}")
         by = rule_of_merge(rule)
         if other is self:
             self.prune()
         else:
-            self._do("merge", other._handle, by)
+            self._do("merge_shifted", other._handle, by, *_arrays.steps(shift))
 
     def counts(self) -> Counts:
         counts = library.Counts()
