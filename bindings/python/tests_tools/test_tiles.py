@@ -10,54 +10,14 @@ import numpy as np
 from driving import content_of, save_drive
 from running import DATA, InFolder, octofix
 
-from octofix import UNKNOWN, BadPoints, CastKind, Map, Rule, VoxelClass, ray, tiles
+from octofix import UNKNOWN, BadPoints, CastKind, Event, Map, Rule, VoxelClass, ray, tiles
 from octofix.mapping import gathering, mapper
-from octofix.mapping.tiles import parts, plans
+from octofix.mapping.tiles import plans
 from octofix.mapping.tiles.beams import met, packed, unpacked
 from octofix.mapping.tiles.lattice import Lattice
-from octofix.mapping.tiles.trees import Leaves, header, joined, node_of
 
 ONE = ["--snapshot", "one.snap", "-o", "one.bt"]
 WORDS = ["--res", "0.1", "--edge", "6.4"]
-
-
-class Trees(unittest.TestCase):
-    """Snapshots that are made of leaves."""
-
-    def test_by_hand(self):
-        """A cube of two voxels an edge, of which the one at x is known: child 1 of eight."""
-        leaf = Leaves(np.array([[1, 0, 0]]), np.array([1]), np.array([850], np.int32))
-        wanted = b"\x02" + b"\x00" + b"\x01\x00\x00\x03\x52" + b"\x00" * 6
-        self.assertEqual(node_of(leaf, 1), wanted)
-        none = Leaves(np.empty((0, 3), int), np.empty(0, int), np.empty(0, np.int32))
-        self.assertEqual(node_of(none, 3), b"\x00")
-        whole = Leaves(np.zeros((1, 3), int), np.array([8]), np.array([-1], np.int32))
-        self.assertEqual(node_of(whole, 3), b"\x01\xff\xff\xff\xff")
-
-    def test_maps(self):
-        """The snapshot of a map is that which is made of its leaves, in any order."""
-        for seed in range(5):
-            numbers = np.random.default_rng(seed)
-            with Map(0.1) as world:
-                for _ in range(3):
-                    world.scan(numbers.normal(size=(50, 3)) * 2, numbers.uniform(-2, 2, 3))
-                low = numbers.uniform(-3, 0, 3)
-                world.edit_box(low, low + 2, 1, -7)
-                leaves = world.leaves()
-                edges = np.int64(1) << (16 - leaves.depth.astype(np.int64))
-                lows = leaves.index.astype(np.int64) * edges[:, None]
-                order = numbers.permutation(len(edges))
-                found = Leaves(lows[order], edges[order], leaves.value[order])
-                text = header(world.resolution_nm, world.odds) + node_of(found, 16)
-                self.assertEqual(text, world.to_snapshot())
-
-    def test_joined(self):
-        """Eight cubes of one value are one; of others each has its place."""
-        whole, places = b"\x01\x00\x00\x00\x09", list(np.ndindex(2, 2, 2))
-        self.assertEqual(joined(dict.fromkeys(places, whole), 1), whole)
-        self.assertEqual(joined({(1, 0, 0): whole}, 1), b"\x02\x00" + whole + b"\x00" * 6)
-        self.assertEqual(joined({}, 5), b"\x00")
-        self.assertEqual(joined({(1, 1, 1): b"\x00"}, 1, whole), b"\x02" + whole * 7 + b"\x00")
 
 
 class Beams(unittest.TestCase):
@@ -173,10 +133,6 @@ class Exact(InFolder):
         voxels = sum(int((it.edges**3).sum()) for it in town.leaves())
         self.assertEqual(voxels, len(one.voxels("known")))
 
-    def test_joined_in_pieces(self):
-        with mock.patch.object(parts, "_PIECE", 20_000):
-            self.assertEqual(self.town.to_map().map.to_snapshot(), self.files[0])
-
 
 class Made(InFolder):
     def same(self, town, words):
@@ -222,6 +178,41 @@ class Made(InFolder):
                          "-o", "far.bt").said
         self.assertEqual(said, "octofix: the map is moved: its origin lies at "
                          f"{shift[0] / 10:.10g} {shift[1]} {shift[2]} m\n")
+
+    def test_parts_that_are_moved(self):
+        """Beams from the voxels -32,000 and 33,000 on x, ten voxels long: by halves of 128 voxels
+        they lie in -250 to 257, and are moved by 4 of these."""
+        with tiles.create("town", 0.1) as town:
+            for x in (-3199.95, 3300.05):
+                town.add([([[1, 0, 0]], (x, 0.05, 0.05))])
+            part, shift = town.to_map()
+            self.assertEqual(shift.tolist(), [512, 0, 0])
+            wanted = [[it - 512 + 32768, 32768, 32768] for it in (-31990, 33010)]
+            self.assertEqual(part.voxels().tolist(), wanted)
+            part, shift = town.to_map((3300.55, 0, 0), (3300.95, 0.1, 0.1))
+            self.assertEqual(shift.tolist(), [257 * 128, 0, 0])
+            wanted = [[it - 257 * 128 + 32768, 32768, 32768] for it in range(33005, 33010)]
+            self.assertEqual(sorted(part.voxels("known").tolist()), wanted)
+
+    def test_the_end_of_a_map(self):
+        """A beam that crosses it, in a tile of which a part has room."""
+        with tiles.create("town", 0.1) as town:
+            town.add([([[1, 0, 0]], (3276.05, 0.05, 0.05))])
+            part, shift = town.to_map((-3276.75, 0, 0), (3276.75, 0.1, 0.1))
+            self.assertEqual(shift.tolist(), [0, 0, 0])
+            wanted = [[32768 + it, 32768, 32768] for it in range(32760, 32768)]
+            self.assertEqual(sorted(part.voxels("known").tolist()), wanted)
+            part, shift = town.to_map()
+            self.assertEqual((shift.tolist(), len(part.voxels("known"))), ([256 * 128, 0, 0], 11))
+
+    def test_a_part_of_a_tile_that_is_full(self):
+        """It has more groups than the tile, and lies in a map that has room."""
+        with tiles.create("town", 0.1, edge=1.6) as town, Map(0.1, max_groups=100) as free:
+            free.edit_box((-0.8,) * 3, (0.75,) * 3, Event.SET, -400)
+            town._entries, town._map = {(0, 0, 0): None}, lambda tile: free
+            part, _ = town.to_map((-0.65, -0.65, -0.65), (0.65, 0.65, 0.65))
+            self.assertEqual(len(part.voxels("free")), 14**3)
+            self.assertEqual(len(free.voxels("free")), 16**3)
 
     def test_by_an_executor(self):
         """Of threads, which part a cloud each."""

@@ -12,7 +12,7 @@ from running import InFolder, octofix
 
 from octofix import Box, Map, VoxelClass, tiles
 from octofix.mapping import maps, morton
-from octofix.mapping.tiles import trees
+from octofix.mapping.tiles import leaves
 from octofix.viewer import blocks, page
 
 BOX = ["--box", "-3", "-2", "-2", "4.5", "3", "1.2"]
@@ -108,7 +108,7 @@ class Outputs(InFolder):
             world.edit_box((-819.2,) * 3, (819.1,) * 3, 1, -400)
             town._entries, town._map = {(0, 0, 0): None}, lambda tile: world
             corners = [(it + 0.5) / 10 for it in (low, high)]
-            with mock.patch.object(trees.Leaves, "_children", side_effect=AssertionError):
+            with mock.patch.object(leaves.Leaves, "_children", side_effect=AssertionError):
                 part, shift = town.to_map(*corners)
                 sizes = [len(it) for it in town.voxels(*corners, kind="free")]
             with part:

@@ -8,15 +8,15 @@ than some 8 million parts of large blocks, it ends with whole blocks at its bord
 """
 
 from octofix.io.errors import Unusable
-from octofix.mapping.leaves import values_of_parts
-from octofix.mapping.maps import read_blocks
+from octofix.mapping.leaves import Leaves
+from octofix.mapping.maps import read_map
 
 from ..arguments import add_box, add_map, add_map_outputs, add_origin
 from ..boxes import border_of, box_of
 from ..clashes import refuse_first
-from ..destinations import asked_of, places_of
+from ..destinations import asked_of, expect_something, places_of
 from ..errors import DONE
-from ..rebuild import write_leaves
+from ..rebuild import as_unusable, write_changed
 
 HELP = "the part of a map in a box"
 MOST_PARTS = 1 << 23
@@ -37,11 +37,19 @@ def run(options):
     refuse_first(options, options.map)
     if not options.box:
         raise Unusable("the box is to be given (--box)")
-    read = read_blocks(options.map)
-    box = box_of(options.box, read.leaves.resolution)
-    box = border_of(read.leaves, box, MOST_PARTS)
-    leaves, values = read.leaves.meeting(*box), read.values
-    if values is not None:
-        values = values_of_parts(values, read.leaves, leaves)
-    write_leaves(options, read, leaves, values, box=box)
+    with read_map(options.map) as world:
+        with as_unusable():
+            world.keep(*world.centers(_box(options, world)))
+        world.no_limit()
+        expect_something(options, world.bounds() is not None)
+        write_changed(options, world)
     return DONE
+
+
+def _box(options, world):
+    """The box, or the one at whose border there are few enough parts."""
+    low, high = box_of(options.box, world.resolution_nm)
+    length, width, height = (high - low + 1).tolist()
+    if 2 * (length * width + width * height + height * length) <= MOST_PARTS:
+        return low, high
+    return border_of(Leaves.of(world.leaves(), world.odds.threshold), (low, high), MOST_PARTS)

@@ -13,14 +13,15 @@ import numpy as np
 from octofix.io.errors import Unusable
 from octofix.io.lengths import metres, nanometres
 from octofix.io.options import finite, whole
-from octofix.mapping.leaves import ORIGIN
-from octofix.mapping.maps import read_blocks
+from octofix.mapping.leaves import HIGHEST
+from octofix.mapping.maps import MOST_GROUPS, read_map
+from octofix.mapping.surveys import PlacedMap
 
 from ..arguments import add_map, add_map_outputs, add_origin
 from ..clashes import refuse_first
-from ..destinations import asked_of, places_of
+from ..destinations import asked_of, expect_something, places_of
 from ..errors import DONE
-from ..rebuild import write_leaves
+from ..rebuild import as_unusable, write_changed
 
 HELP = "a map moved by whole voxels"
 
@@ -41,15 +42,22 @@ outputs = places_of
 def run(options):
     asked_of(options)
     refuse_first(options, options.map)
-    read = read_blocks(options.map)
-    leaves = read.leaves
-    steps = _steps_of(options, leaves.resolution)
-    if len(leaves):
-        low, high = leaves.box()
-        if (low + steps < 0).any() or (high + steps >= 2 * ORIGIN).any():
+    with read_map(options.map) as world:
+        known, steps = world.bounds(), _steps_of(options, world.resolution_nm)
+        expect_something(options, known is not None)
+        if known and not _are_keys(known + steps):
             raise Unusable("the map would reach beyond its border")
-    write_leaves(options, read, leaves, read.values, steps=steps)
+        odds = world.odds._asdict()
+        with PlacedMap(world.resolution, **odds, max_groups=MOST_GROUPS) as moved:
+            moved.origin = world.origin
+            with as_unusable():
+                moved.merge(world, shift=steps)
+            write_changed(options, moved)
     return DONE
+
+
+def _are_keys(numbers):
+    return bool(((numbers >= 0) & (numbers <= HIGHEST)).all())
 
 
 def _steps_of(options, resolution):

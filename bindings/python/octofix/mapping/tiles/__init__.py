@@ -25,7 +25,7 @@ from typing import Sequence
 
 from . import engines, folder as _files, plans, runs, steps
 from .errors import BadTiles, as_bad_tiles
-from .parts import Leaves
+from .leaves import Leaves
 from .store import Part, Tiles, create, settings_of
 
 __all__ = ["BadTiles", "Leaves", "Part", "Tiles", "abandon", "add", "build", "create"]

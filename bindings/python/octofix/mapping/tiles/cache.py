@@ -50,5 +50,5 @@ class Cache:
             world.load_snapshot(files.read_tile(self._folder, tile, self._entries[tile]))
         if is_walled:
             middle = self._settings.lattice().shift(tile)
-            world.load_snapshot(moved(world, self._settings, tile, middle, True))
+            return moved(world, self._settings, tile, middle, True)
         return world

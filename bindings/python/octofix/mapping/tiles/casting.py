@@ -13,7 +13,6 @@ from .errors import BadTiles
 from .lattice import HALF, NANO, Ints, Lattice, Place, grouped
 from .parts import moved
 from .plans import Settings
-from .steps import new_map
 
 
 class Asked(NamedTuple):
@@ -79,9 +78,7 @@ def _cast_far(asked: Asked, tile: Place, row: int, ways, found) -> None:
     first, last = (lattice.voxels(it[row]) for it in ways)
     middle = (first + last) // 2 // half * half
     is_walled = not asked.ignores_unknown
-    snapshot = moved(asked.map_of(tile), asked.settings, tile, middle, is_walled)
-    with new_map(asked.settings) as world:
-        world.load_snapshot(snapshot)
+    with moved(asked.map_of(tile), asked.settings, tile, middle, is_walled) as world:
         _cast(world, asked, middle, np.array([row]), ways, found)
 
 

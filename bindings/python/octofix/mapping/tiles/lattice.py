@@ -56,6 +56,11 @@ class Lattice:
         low = self.shift(tile) - self.side // 2
         return low, low + self.side - 1
 
+    def cut(self, tile: npt.ArrayLike, low: Ints, high: Ints) -> tuple[Ints, Ints]:
+        """The part of the box of two voxels that lies in a tile."""
+        first, last = self.box(tile)
+        return np.maximum(low, first), np.minimum(high, last)
+
     def middles(self, voxels: npt.ArrayLike, tile: npt.ArrayLike = (0, 0, 0)) -> npt.NDArray:
         """The middles of voxels in metres, in the map of a tile."""
         local = np.asarray(voxels, np.int64) - self.shift(tile)

@@ -16,8 +16,8 @@ from . import casting, engines, folder as files, given, parts, runs, steps
 from .cache import Cache
 from .errors import BadTiles, as_bad_tiles
 from .lattice import HALF, LEAST, MOST, NANO, Ints, Place, grouped, tile_of
+from .leaves import Leaves
 from .plans import Settings
-from .trees import Leaves
 
 MOST_COLUMNS = 1 << 26
 # Voxels along the edge of a tile where nothing is said.
@@ -217,7 +217,7 @@ class Tiles:
             raise ValueError(f"{width} x {depth} columns are more than 2^26")
         grid = np.full((depth, width), -1, np.int8)
         for tile in self._in(first, last):
-            one, other = self._cut(tile, first, last)
+            one, other = self._lattice.cut(tile, first, last)
             found = self._map(tile).grid(*self._lattice.middles([one, other], tile))
             (x, y, _), (right, top, _) = one - first, other - first + 1
             np.maximum(grid[y:top, x:right], found, out=grid[y:top, x:right])
@@ -235,7 +235,7 @@ class Tiles:
         value, int32 (n,)."""
         box = self._box_or_all(low, high)
         for tile in self.places if box is None else self._in(*box):
-            part = () if box is None else self._lattice.middles(self._cut(tile, *box), tile)
+            part = () if box is None else self._lattice.middles(self._lattice.cut(tile, *box), tile)
             found = self._map(tile).leaves(*part, kind=kind)
             edges = np.int64(1) << (16 - found.depth.astype(np.int64))
             lows = found.index.astype(np.int64) * edges[:, None] - HALF + self._lattice.shift(tile)
@@ -329,11 +329,6 @@ class Tiles:
         if (low is None) != (high is None):
             raise ValueError("low and high stand both or not at all")
         return None if low is None else self._box(low, high)
-
-    def _cut(self, tile: Place, low: Ints, high: Ints) -> tuple[Ints, Ints]:
-        """The part of a box that lies in a tile."""
-        first, last = self._lattice.box(tile)
-        return np.maximum(low, first), np.minimum(high, last)
 
     def _in(self, low: Ints, high: Ints) -> list[Place]:
         """The tiles that are there and meet the box of two voxels."""
