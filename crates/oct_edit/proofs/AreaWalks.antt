@@ -25,7 +25,7 @@ use Rattle.oct_tree.specs.Shape.{IsWellFormed}
 use Rattle.oct_tree.specs.Tree.{Tree, IsLinked, IsPlace, node_in, block_in, reach, value_at}
 use Rattle.oct_tree.proofs.Paths.{slot_place, slot_block, some_not_none, reach_home}
 use Rattle.oct_edit.specs.Areas.{area_events, MeetsArea, is_split_by, splits_at, splits_in}
-use Rattle.oct_edit.specs.Edits.{IsEdited, IsEagerEdit}
+use Rattle.oct_edit.specs.Edits.{IsEdited}
 use Rattle.oct_edit.specs.Keep.{parts_leaf, keep_need}
 use Rattle.oct_edit.specs.Steps.{IsTouched, IsEntered, IsClosed}
 use Rattle.oct_edit.specs.declared.area.Area.{Area}
@@ -243,14 +243,6 @@ nowhere_edited t area event h out = record {
   made = λ x c home. inl refl;
   inner = λ q id v c apart is home. is;
   expanded = λ x c home. inl (x, home);
-}
-
-pub nowhere_eager : (t : Tree) (area : Area) (event : Event)
-    → (MeetsArea area root_block → ⊥) → IsEagerEdit t t (area_events area event)
-nowhere_eager t area event out = record {
-  path = λ k v (x, is, more). absurd (some_not_none is (nowhere area event k v out));
-  fresh = λ h. h;
-  pruned = λ h. h;
 }
 
 -- an event on a box takes at most a group for each block that the box cuts

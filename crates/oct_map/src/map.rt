@@ -1,7 +1,7 @@
 //! The map that a robot keeps: edited, scanned into and asked by points, within its limits.
 ghost use Rattle.std.specs.Prelude.{◌≡◌, ℕ, ◌+◌, ◌^◌, ◌<◌, ◌≤◌, ◌⊎◌, ◌&&◌, nat_lt, pos, ◌≤ℤ◌, ◌<ℤ◌};
-ghost use Rattle.std.specs.Prelude.{true, false, IsTrue, [], All, Some, None, is_some, IsSome, IfSome};
-ghost use Rattle.std.specs.Prelude.{Ok, Err, IsOk, OnOk, OnErr, IfOk, IfErr};
+ghost use Rattle.std.specs.Prelude.{true, false, IsTrue, [], All, Some, None, is_some, IsSome};
+ghost use Rattle.std.specs.Prelude.{IfSome, Ok, Err, IsOk, OnOk, OnErr, IfOk, IfErr};
 ghost use Rattle.oct_key.specs.CubeOf.{cube_of};
 ghost use Rattle.oct_key.specs.Voxel.{Voxel, IsInMap, key_at};
 ghost use Rattle.oct_key.specs.Values.{SameValues};

@@ -8,7 +8,7 @@ use Rattle.oct_key.specs.Block.{Cube, IsBlock, lowest_voxel, root_block}
 use Rattle.oct_key.proofs.Blocks.{lowest_held, lowest_in_map, block_of_held}
 use Rattle.oct_values.specs.Blocks.{blocks_above_voxels}
 use Rattle.oct_values.proofs.Listed.{all_above_voxels}
-use Rattle.oct_values.proofs.Sums.{All-follows, sum_by-same, sum_by-each_le}
+use Rattle.oct_values.proofs.Sums.{All-follows, sum_by-same}
 use Rattle.oct_values.proofs.Sums.{sum_by-plus}
 use Rattle.oct_arena.specs.declared.node.Group.{Group}
 use Rattle.oct_arena.specs.Entries.{Groups, entry, home_of, home_at, is_that_home, has_home, live}
@@ -131,21 +131,3 @@ live_by_blocks t o l lo =
     ∙ sum_by-plus (λ b. cond {A = ℕ} (is_needed t o b) 1 0)
     (λ b. cond {A = ℕ} (is_common t o b) 1 0) blocks_above_voxels
     ∙ ap (λ n. n + common_in t o root_block) (sym (need_by_blocks t o l lo))
-
-missing_live : (gs : Groups) (e : Option Group)
-    → cond {A = ℕ} (is_missing gs e) 1 0 ≤ cond {A = ℕ} (is_some e) 1 0
-missing_live gs None = omega arith
-missing_live gs (Some g) = by_test (has_home gs g.home)
-  where
-    by_test : (test : Bool) → cond {A = ℕ} (not test) 1 0 ≤ 1
-    by_test true = omega arith
-    by_test false = omega arith
-
--- they are groups of the second tree
-pub need_few : (t o : Tree) → merge_need t o ≤ live o.groups
-unfolding merge_need
-need_few t o =
-    sum_by-each_le (λ e. cond {A = ℕ} (is_missing t.groups e) 1 0)
-    (λ e. cond {A = ℕ} (is_some e) 1 0) o.groups
-    (All-from_get_or (λ e. cond {A = ℕ} (is_missing t.groups e) 1 0 ≤ cond {A = ℕ} (is_some e) 1 0)
-    o.groups None (λ x l. missing_live t.groups (entry o.groups x)))

@@ -1,5 +1,5 @@
 -- Voxels of a walk that are marked one after another, or two at once.
-use Rattle.std.proofs.Common.{◌≡◌, ◌≢◌, ℕ, ◌<◌, ◌≤◌, ◌⊎◌, ◌↔◌, inl, inr, List, [], ◌∷◌, ◌++◌}
+use Rattle.std.proofs.Common.{◌≡◌, ◌≢◌, ℕ, ◌≤◌, ◌⊎◌, ◌↔◌, inl, inr, List, [], ◌∷◌, ◌++◌}
 use Rattle.std.proofs.Common.{map, length, take, None, Option, Some, IfSome, refl, sym, subst, ◌∙◌}
 use Rattle.std.proofs.Common.{ap, arith, append_assoc}
 use Rattle.std.specs.List.{All, Contains}
@@ -268,18 +268,6 @@ pushed_on walk mid rest old bs new b bm b' m n = record {
   bricks = n.bricks;
   current = n.current;
 }
-
--- fewer are left then
-pub pair_shortens : (old new : List Voxel) (first second : ℕ) → HasGivenPair old new first second
-    → length new < length old
-pair_shortens old new first second g = elim g.next [
-  | inl same ↦ omega (arith, ap length g.given.first, ap length same.0)
-  | inr later ↦ omega (arith, ap length g.given.first, ap length later.first)
-]
-
-pub one_shortens : (old new : List Voxel) (code : ℕ) → HasGiven old new code
-    → length new < length old
-one_shortens old new code g = omega (arith, ap length g.first)
 
 -- where a walk ends at a voxel, that is its last one, and none of those before
 ends_apart : (front : List Voxel) (end k : Voxel) → EndsAt end (front ++ k ∷ [])

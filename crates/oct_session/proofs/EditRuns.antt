@@ -54,18 +54,6 @@ oks_length zero = refl
 oks_length (suc n) = let long = length-append (text_of (Some reply_of.Ok)) (oks n) in
     let rest = oks_length n in omega (arith, long, rest)
 
--- one reply more
-pub oks_push : (n : ℕ) → oks (n + 1) ≡ oks n ++ text_of (Some reply_of.Ok)
-oks_push n = ap oks (plain n) ∙ push n
-  where
-    plain : (n : ℕ) → n + 1 ≡ suc n
-    plain n = omega arith
-
-    push : (n : ℕ) → oks (suc n) ≡ oks n ++ text_of (Some reply_of.Ok)
-    push zero = append-nil (text_of (Some reply_of.Ok))
-    push (suc n) = ap (λ x. text_of (Some reply_of.Ok) ++ x) (push n)
-        ∙ sym (append_assoc (text_of (Some reply_of.Ok)) (oks n) (text_of (Some reply_of.Ok)))
-
 -- replies of which some bytes are cut off: those to the first edits, and a part of the next one
 pub record IsCutAt (k n j : ℕ) : Type 0 where
   pub told : List ℕ

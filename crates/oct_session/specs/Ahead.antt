@@ -1,6 +1,6 @@
 -- Edits of single voxels whose replies are written together, before they are done.
-use Rattle.std.specs.Prelude.{◌≡◌, ℕ, zero, suc, ◌+◌, ◌*◌, ◌<◌, ◌≤◌, List, [], ◌∷◌, ◌++◌, length, map, take, ⊤}
-use Rattle.std.specs.Prelude.{Some, IsSome, Ok, All, false, OnOk, OnErr, Result}
+use Rattle.std.specs.Prelude.{◌≡◌, ℕ, zero, suc, ◌+◌, ◌*◌, ◌<◌, ◌≤◌, List, [], ◌∷◌, ◌++◌}
+use Rattle.std.specs.Prelude.{length, map, take, ⊤, Some, IsSome, Ok, All, false, OnOk, OnErr, Result}
 use Rattle.oct_key.specs.Voxel.{key_at}
 use Rattle.oct_io.specs.Counts.{IsWriteCounted}
 use Rattle.oct_io.specs.Told.{appended}
