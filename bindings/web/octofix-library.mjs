@@ -149,6 +149,14 @@ export function checkWhole(number, what) {
 export const integer32 = (number, what) =>
   Math.max(-(2 ** 31), Math.min(checkWhole(number, what), 2 ** 31 - 1));
 
+// By how many voxels what is known is moved along x, y and z.
+export function stepsOf(shift) {
+  const steps = Array.from(shift, it => integer32(it, "shift"));
+  if (steps.length !== 3)
+    throw new RangeError(`shift is three whole numbers, and not ${steps.length}`);
+  return steps;
+}
+
 // Points as numbers one after another, of 64 bits or of 32 as they came.
 export function numbersOf(points, what) {
   const flat = Array.isArray(points) && typeof points[0] === "object"

@@ -17,7 +17,7 @@ const PROPERTIES = [
   "resolution", "resolutionNm", "odds", "limits", "stale", "tracked", "memory", "window", "closed",
 ];
 const CALLS = [
-  "scan", "scanFrom", "edit", "editBox", "limit", "noLimit", "refresh", "prune", "clear",
+  "scan", "scanFrom", "edit", "editBox", "keepBox", "limit", "noLimit", "refresh", "prune", "clear",
   "maxLikelihood", "merge", "counts", "leastTree", "get", "classes", "probabilities", "cast",
   "list", "leaves", "voxels", "centers", "bounds", "extent", "grid", "track", "untrack", "changes",
   "toBt", "toSnapshot", "loadBt", "loadSnapshot",

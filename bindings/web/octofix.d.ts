@@ -124,6 +124,8 @@ export interface OccMap {
     options?: {lazy?: boolean}): void;
   /** Edits each voxel from that of `low` to that of `high`. */
   editBox(low: Point, high: Point, event: number, number?: number): void;
+  /** Forgets each voxel outside of the box from that of `low` to that of `high`. */
+  keepBox(low: Point, high: Point): void;
   /** From now on scans change only voxels of this box. */
   limit(low: Point, high: Point): void;
   noLimit(): void;
@@ -131,8 +133,9 @@ export interface OccMap {
   prune(): void;
   clear(): void;
   maxLikelihood(): void;
-  /** Takes in what another map of the same module, resolution and log-odds knows. */
-  merge(other: OccMap, rule?: number): void;
+  /** Takes in what another map of the same module, resolution and log-odds knows, moved by `shift`,
+   * three whole numbers of voxels. */
+  merge(other: OccMap, rule?: number, shift?: ArrayLike<number>): void;
   /** Prunes, and counts the least tree. */
   counts(): {groups: number; nodes: number};
 

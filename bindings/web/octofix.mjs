@@ -13,7 +13,7 @@
 import {
   Blocks, CODES, Closed, DEPTH, Library, NANOMETRES, ODDS_FIELDS, ORIGIN, OutOfMemory, PLACES,
   POINT, Refused, big, bytesOf, checkWhole, edgeOf, integer32, lengthOf, matrixOf, numbersOf,
-  quaternionOf,
+  quaternionOf, stepsOf,
 } from "./octofix-library.mjs";
 
 export {
@@ -312,6 +312,10 @@ class Occupancy {
     library.detailed("edit_box", this.#at, ...corners, event, found);
   }
 
+  keepBox(low, high) {
+    this.#library.detailed("keep_box", this.#at, ...this.#library.corners(low, high));
+  }
+
   limit(low, high) {
     this.#library.detailed("limit", this.#at, ...this.#library.corners(low, high));
   }
@@ -336,12 +340,35 @@ class Occupancy {
     this.#library.call("max_likelihood", this.#at);
   }
 
-  merge(other, rule = Rule.FIRST) {
+  merge(other, rule = Rule.FIRST, shift = [0, 0, 0]) {
     if (!(other instanceof Occupancy) || other.#library !== this.#library)
       throw new TypeError("another map of the same module is merged");
     this.#library.whole(rule, "rule", Rule.FIRST, Rule.LEAST);
-    if (other === this) this.prune();
+    const steps = stepsOf(shift), isMoved = steps.some(it => it);
+    if (isMoved && other === this) this.#mergeItself(rule, steps);
+    else if (isMoved) this.#mergeMoved(other.#at, rule, steps);
+    else if (other === this) this.prune();
     else this.#library.detailed("merge", this.#at, other.#at, rule);
+  }
+
+  #mergeMoved(other, rule, steps) {
+    const library = this.#library, details = big(library.small + PLACES.DETAILS);
+    const code = library.run("merge_shifted", this.#at, other, rule, details, ...steps);
+    library.checked(code, true);
+  }
+
+  // (a call takes no map twice)
+  #mergeItself(rule, steps) {
+    const library = this.#library;
+    library.with(HANDLE, copy => {
+      new Uint8Array(library.memory.buffer, copy, HANDLE).fill(0);
+      library.call("copy", this.#at, big(copy));
+      try {
+        this.#mergeMoved(big(copy), rule, steps);
+      } finally {
+        library.run("close", big(copy));
+      }
+    });
   }
 
   counts() {

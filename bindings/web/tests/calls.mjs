@@ -42,6 +42,7 @@ class Doer {
   toSnapshot() { return sumOf(this.map.toSnapshot()); }
   leaves(kind) { return blocksOf(this.map.leaves(kind)); }
   voxels(kind) { return sumOf(this.map.voxels(kind)); }
+  keepBox(low, high) { this.map.keepBox(this.of(low), this.of(high)); }
   limit(low, high) { this.map.limit(this.of(low), this.of(high)); }
 
   scan(points, origin, quaternion, how) {
@@ -103,11 +104,11 @@ class Doer {
 
   cut(length) { this.map.loadBt(this.map.toBt().subarray(0, length)); }
 
-  merge(resolution, settings, points, rule) {
+  merge(resolution, settings, points, rule, shift) {
     const other = new this.OccMap(resolution, settingsOf(settings));
     try {
       other.scanFrom([0, 0, 0], this.of(points));
-      this.map.merge(other, rule);
+      this.map.merge(other, rule, shift);
       return sumOf(this.map.toSnapshot());
     } finally {
       other.close();

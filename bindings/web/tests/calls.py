@@ -75,8 +75,8 @@ class Calls:
             if self.chance(0.5):
                 self.ask("track", [], self.world.track)
             for _ in range(int(self.draw.integers(1, 6))):
-                edits = [self.scan, self.scan_from, self.edit, self.edit_box, self.limit]
-                self.draw.choice(edits)()
+                edits = [self.scan, self.scan_from, self.edit, self.edit_box, self.keep_box]
+                self.draw.choice([*edits, self.limit])()
             self.ask_points()
             self.ask_lists()
             self.ask_whole()
@@ -127,6 +127,10 @@ class Calls:
         event, number = int(self.draw.integers(4)), int(self.draw.integers(-3000, 3000))
         passed = [self.keep(low), self.keep(high), event, number]
         self.ask("editBox", passed, lambda: self.world.edit_box(low, high, event, number))
+
+    def keep_box(self):
+        low, high = self.box()
+        self.ask("keepBox", [self.keep(low), self.keep(high)], lambda: self.world.keep(low, high))
 
     def limit(self):
         low, high = self.box()
@@ -183,13 +187,16 @@ class Calls:
     def merge(self, resolution, settings):
         other = octofix.Map(resolution, **settings)
         points, rule = self.draw.normal(0, 3, (50, 3)), int(self.draw.integers(4))
+        shift = self.draw.integers(-40, 40, 3).tolist() if self.chance(0.5) else [0, 0, 0]
+        if self.chance(0.1):
+            shift[self.draw.integers(3)] = int(self.draw.choice([-(2**15), 2**15, 2**31]))
 
         def merged():
             other.scan_from((0, 0, 0), points)
-            self.world.merge(other, rule)
+            self.world.merge(other, rule, shift)
             return sum_of(self.world.to_snapshot())
 
-        self.ask("merge", [resolution, settings, self.keep(points), rule], merged)
+        self.ask("merge", [resolution, settings, self.keep(points), rule, shift], merged)
 
 
 def boxed(box):

@@ -1,7 +1,9 @@
 // Tests of octofix.mjs that random calls don't make: memory, ends of maps, and the worker. Each is
 // a function that throws where something isn't as it should be.
 
-import {load, isSnapshot, Blocks, Closed, OutOfMemory, Refused, Stopped} from "../octofix.mjs";
+import {
+  load, isSnapshot, Blocks, Closed, Event, OutOfMemory, Refused, Rule, Stopped,
+} from "../octofix.mjs";
 import {start} from "../octofix-worker.mjs";
 import {bytesAt} from "./reading.mjs";
 
@@ -40,6 +42,9 @@ function closedMaps({OccMap}) {
   refuses(Closed, () => map.centers([1, 2, 3]));
   const other = new OccMap(0.1);
   refuses(Closed, () => other.merge(map));
+  refuses(Closed, () => other.merge(map, Rule.FIRST, [1, 0, 0]));
+  refuses(Closed, () => map.merge(map, Rule.FIRST, [1, 0, 0]));
+  refuses(Closed, () => map.keepBox([0, 0, 0], [1, 1, 1]));
   other.close();
 }
 
@@ -54,6 +59,74 @@ function wrongWords({OccMap}) {
   refuses(RangeError, () => map.edit([[0, 0, 0]], [1, 1], 5));
   refuses(TypeError, () => map.edit([[0, 0, 0]], 1, 0.5));
   refuses(TypeError, () => map.merge({}));
+  refuses(RangeError, () => map.keepBox([0, 0], [1, 1, 1]));
+  refuses(RangeError, () => map.merge(map, Rule.FIRST, [1, 2]));
+  refuses(TypeError, () => map.merge(map, Rule.FIRST, [1, 2, 0.5]));
+  refuses(TypeError, () => map.merge(map, Rule.FIRST, ["1", 2, 3]));
+  map.close();
+}
+
+// The known voxels of a map: keys, which are 32768 in the origin, and the value.
+function known(map) {
+  const keys = map.voxels("known"), values = map.get(map.centers(keys));
+  return Array.from(values, (it, row) => [...keys.subarray(3 * row, 3 * row + 3), it]);
+}
+
+// Voxel (0, 0, 0) of one map is (3, -5, 1) of another, which knows it from the second merge on.
+function movedMaps({OccMap}) {
+  const [map, other] = [new OccMap(0.1), new OccMap(0.1)], shift = [3, -5, 1];
+  other.edit([0.05, 0.05, 0.05], Event.SET, 500);
+  map.merge(other, Rule.FIRST, shift);
+  equal(known(map), [[32771, 32763, 32769, 500]]);
+  equal(Array.from(map.get([0.35, -0.45, 0.15])), [500]);
+  equal(known(other), [[32768, 32768, 32768, 500]]);
+  other.edit([0.05, 0.05, 0.05], Event.SET, -300);
+  map.merge(other, Rule.GREATEST, Int32Array.from(shift));
+  equal(known(map), [[32771, 32763, 32769, 500]]);
+  map.merge(other, Rule.LEAST, shift);
+  equal(known(map), [[32771, 32763, 32769, -300]]);
+  // (a map takes in itself: its voxel is moved by 2 more along x)
+  map.merge(map, Rule.FIRST, [2, 0, 0]);
+  equal(known(map), [[32771, 32763, 32769, -300], [32773, 32763, 32769, -300]]);
+  other.merge(map);
+  other.merge(map, Rule.FIRST, [0, 0, 0]);
+  equal(known(other).length, 3);
+  for (const it of [map, other]) it.close();
+}
+
+// Two voxels, of the keys 32768 and 32769 along x: of 65535, the highest key, the second is 32766
+// away.
+function mapsThatAreMovedOut({OccMap}) {
+  const [map, other] = [new OccMap(0.1), new OccMap(0.1)];
+  other.edit([[0.05, 0.05, 0.05], [0.15, 0.05, 0.05]], Event.SET, 500);
+  map.edit([1, 1, 1], Event.SET, 7);
+  const before = map.toSnapshot();
+  for (const [shift, point] of [[[0, -32769, 0], 1], [[32767, 0, 0], 2], [[0, 0, 2 ** 40], 1]]) {
+    const why = refuses(Refused, () => map.merge(other, Rule.FIRST, shift));
+    equal([why.name, why.fields, why.message],
+      ["Outside", {point}, `refused 24 Outside point ${point}`]);
+    equal(Array.from(map.toSnapshot()), Array.from(before));
+  }
+  map.clear();
+  map.merge(other, Rule.FIRST, [32766, 0, -32768]);
+  equal(known(map), [[65534, 32768, 0, 500], [65535, 32768, 0, 500]]);
+  refuses(Refused, () => map.merge(map, Rule.FIRST, [1, 0, 0]));
+  equal(known(map).length, 2);
+  for (const it of [map, other]) it.close();
+}
+
+// Of three voxels in a row along x, and one over the middle one, two are kept.
+function keptBoxes({OccMap}) {
+  const map = new OccMap(0.1);
+  map.edit([[0.05, 0.05, 0.05], [0.15, 0.05, 0.05], [0.25, 0.05, 0.05], [0.15, 0.05, 0.15]],
+    Event.SET, [1, 2, 3, 4]);
+  map.keepBox([0.15, 0.05, 0.05], [0.95, 0.05, 0.05]);
+  equal(known(map), [[32769, 32768, 32768, 2], [32770, 32768, 32768, 3]]);
+  equal(refuses(Refused, () => map.keepBox([0, 0, 0], [1e5, 0, 0])).name, "Outside");
+  equal(refuses(Refused, () => map.keepBox([0, 0, 0.1], [0, 0, 0])).name, "BadBox");
+  equal(known(map).length, 2);
+  map.keepBox([5, 5, 5], [6, 6, 6]);
+  equal(known(map), []);
   map.close();
 }
 
@@ -150,6 +223,11 @@ async function worker(_, module) {
   const again = await octofix.open(await map.toSnapshot());
   await again.merge(map);
   equal(Array.from(await again.toBt()), Array.from(await map.toBt()));
+  await again.merge(map, Rule.FIRST, [3, -5, 1]);
+  await again.keepBox([2.35, -0.45, 0.15], [2.35, -0.45, 0.15]);
+  equal(Array.from(await again.voxels("known")), [32791, 32763, 32769]);
+  const left = await again.merge(map, Rule.FIRST, [32760, 0, 0]).catch(it => it);
+  equal([left instanceof Refused, left.message], [true, "refused 24 Outside point 2"]);
   const why = await map.get([1e5, 0, 0]).then(() => undefined, it => it);
   equal([why instanceof Refused, why.message], [true, "refused 24 Outside index 0"]);
   await map.close();
@@ -159,8 +237,8 @@ async function worker(_, module) {
 }
 
 const TESTS = {
-  answersOfAScan, closedMaps, wrongWords, filesOfBothKinds, heap, memoryThatRunsOut,
-  callsAfterATrap, mapsThatAreLost, disposal, worker,
+  answersOfAScan, closedMaps, wrongWords, movedMaps, mapsThatAreMovedOut, keptBoxes,
+  filesOfBothKinds, heap, memoryThatRunsOut, callsAfterATrap, mapsThatAreLost, disposal, worker,
 };
 
 // The faults of all tests, by their names, and how many there are.

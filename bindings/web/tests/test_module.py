@@ -12,7 +12,7 @@ import engines
 
 # A use of the types, with faults that tsc has to find.
 TYPED = """
-import {load, Blocks, Event, Refused} from "./octofix.js";
+import {load, Blocks, Event, Refused, Rule} from "./octofix.js";
 import {start} from "./octofix-worker.js";
 
 export async function use(bytes: Uint8Array): Promise<number> {
@@ -20,9 +20,13 @@ export async function use(bytes: Uint8Array): Promise<number> {
   const map = OccMap.fromBt(bytes, {maxGroups: 1000});
   const {hits} = map.scan([[1, 2, 3]], [0, 0, 1], {range: 3, quaternion: [1, 0, 0, 0]});
   map.edit(new Float32Array(3), Event.SET, 850, {lazy: true});
+  map.keepBox([0, 0, 0], [1, 1, 1]);
+  map.merge(map, Rule.FIRST, [3, -5, 1]);
   const leaves: Blocks = map.leaves("free", {low: [0, 0, 0], high: [1, 1, 1]});
   const keys: Uint16Array = ray(0.1, [0, 0, 0], [1, 0, 0]);
   const remote = await (await start()).open(bytes);
+  await remote.keepBox([0, 0, 0], [1, 1, 1]);
+  await remote.merge(remote, Rule.LEAST, new Int32Array(3));
   const values: Int32Array = await remote.get([[1, 2, 3]]);
   const edge: number = await remote.resolution;
   try { map.close(); } catch (why) { if (why instanceof Refused) return why.code; }
