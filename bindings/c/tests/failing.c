@@ -90,8 +90,8 @@ static uint32_t refresh(octofix_map *map) { return octofix_refresh(map); }
 static uint32_t prune(octofix_map *map) { return octofix_prune(map); }
 static uint32_t max_likelihood(octofix_map *map) { return octofix_max_likelihood(map); }
 static uint32_t track(octofix_map *map) { return octofix_track(map); }
-/* (the other map is made and closed besides: its allocations neither fail nor count) */
-static uint32_t merge(octofix_map *map) {
+/* The other map of a merge: its allocations neither fail nor count. */
+static octofix_map other_map(void) {
     const octofix_point low = at(-900, -900, -900), high = at(900, 800, 700);
     const long passing = to_go, made_before = made;
     to_go = -1;
@@ -99,7 +99,18 @@ static uint32_t merge(octofix_map *map) {
     EXPECT(octofix_edit_box(&other, &low, &high, OCTOFIX_SET, 100, &details), OCTOFIX_DONE);
     to_go = passing;
     made = made_before;
+    return other;
+}
+static uint32_t merge(octofix_map *map) {
+    octofix_map other = other_map();
     const uint32_t code = octofix_merge(map, &other, OCTOFIX_GREATEST, &details);
+    octofix_close(&other);
+    return code;
+}
+static uint32_t merge_shifted(octofix_map *map) {
+    octofix_map other = other_map();
+    const uint32_t code =
+        octofix_merge_shifted(map, &other, OCTOFIX_GREATEST, &details, 3, -2, 1);
     octofix_close(&other);
     return code;
 }
@@ -150,7 +161,8 @@ static uint32_t take_snapshot(octofix_map *map) {
 static uint32_t (*const calls[])(octofix_map *) = {
     scan,   edit,           edit_box, edit_all,  load, restore, clear,        refresh, prune,
     counts, max_likelihood, leaves,   leaves_in, list, save,    list_changes, track,
-    take_snapshot, merge,   leaves_of, scan_in_map, copy, keep_box};
+    take_snapshot, merge,   leaves_of, scan_in_map, copy, keep_box,
+    merge_shifted};
 
 /* A map that is scanned, and tracked where that is wanted. */
 static octofix_map scanned(bool is_tracked) {

@@ -331,6 +331,16 @@ void try_keeping() {
     EXPECT(code_of([&] { world.keep_box(metres(1, 0, 0), metres(0, 0, 0)); }) == OCTOFIX_BAD_BOX);
 }
 
+void try_moving() {
+    octofix::map world(0.1), other(0.1);
+    other.edit(metres(0, 0, 0), octofix::event::set, 9);
+    world.merge_shifted(other, 3, -2, 1);
+    EXPECT(world.get(metres(0.3, -0.2, 0.1)) == 9 && !world.get(metres(0, 0, 0)));
+    world.merge_shifted(world, -3, 2, -1);
+    EXPECT(world.get(metres(0, 0, 0)) == 9 && world.get(metres(0.3, -0.2, 0.1)) == 9);
+    EXPECT(code_of([&] { world.merge_shifted(other, 32768, 0, 0); }) == OCTOFIX_OUTSIDE);
+}
+
 void try_voxels() {
     octofix::map world(0.1);
     world.edit_box(metres(0, 0, 0), metres(0.3, 0.3, 0.3), octofix::event::set, 9);
@@ -605,6 +615,7 @@ int main(int, char **words) {
     try_files(words[1]);
     try_grid();
     try_keeping();
+    try_moving();
     try_voxels();
     try_keys();
     try_models();
