@@ -390,7 +390,8 @@ uint32_t octofix_merge(octofix_map *map, octofix_map *other, uint32_t rule,
  * has at k - (dx, dy, dz). The other map stays as it is. The least box around what it knows has to
  * stay in the map; OUTSIDE tells of its low corner [1] or else of its high one [2]. FULL tells of 0
  * groups where the moved map alone needs more than the map may have. Costs a walk, and memory for
- * the moved map. Refused: as octofix_merge, and OUTSIDE before WIDE_WHILE_TRACKED. */
+ * the moved map. The two handles must not be one. Refused: as octofix_merge, and OUTSIDE before
+ * WIDE_WHILE_TRACKED. */
 uint32_t octofix_merge_shifted(octofix_map *map, const octofix_map *other, uint32_t rule,
                                octofix_details *details, int32_t dx, int32_t dy, int32_t dz);
 
