@@ -70,8 +70,8 @@ counted() {
 }
 
 expect '89,446 points in random directions, seconds' "$(timed random)" 0.66
-expect 'a room, 4 turns of 64 rings, seconds' "$(timed room)" 0.74
-expect 'a street, 4 turns of 64 rings, seconds' "$(timed street)" 0.90
+expect 'a room, 4 turns of 64 rings, seconds' "$(timed room)" 0.90
+expect 'a street, 4 turns of 64 rings, seconds' "$(timed street)" 1.00
 expect '20 scans of 2,000 points, instructions' "$(counted wide)" 0.92
 expect '5 scans of 500 points, instructions' "$(counted small)" 0.92
 
