@@ -14,7 +14,7 @@ killed, and where M minutes are given it begins no run behind them, and ends wit
 (0: as many as there are cores). Prints a line for each run, and then a table of all: processor time
 of all processes, the peak of the largest one, and the bytes of the tiles. Runs that were begun more
 than once count in the table's bytes and not in its times. Needs a Python with numpy, a C compiler
-with Python.h, 100 MB of memory a process, and for all of it 6 GB of disk and two hours of a core.
+with Python.h, 100 MB of memory a process, and for all of it 6 GB of disk and 65 minutes of a core.
 """
 import json
 import multiprocessing
