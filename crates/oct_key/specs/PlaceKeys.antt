@@ -1,5 +1,6 @@
 -- Numbers that hold a place in a list and the code of what stands there.
 use Rattle.std.specs.Prelude.{ℕ, ◌/◌, ◌%◌, ◌<◌, List, map, length, All, slice_index_or}
+use Rattle.std.specs.List.{range_with_len}
 use Rattle.std.specs.List.Sorted.{IsPermutation}
 
 -- what stands at the place that a key has
@@ -12,8 +13,8 @@ pub record IsKey {X : Type 0} (HasCode : X → ℕ → Type 0) (step : ℕ) (thi
   pub within : key % step < length things
   pub coded : (d : X) → HasCode (keyed_at step things d key) (key / step)
 
--- what stands at the places that the keys have are the things of the list, in another order
+-- the keys have each place of the list once, in some order
 pub record AreKeys {X : Type 0} (HasCode : X → ℕ → Type 0) (step : ℕ) (things : List X)
     (keys : List ℕ) : Type 0 where
   pub each : All (IsKey HasCode step things) keys
-  pub moved : (d : X) → IsPermutation things (map (keyed_at step things d) keys)
+  pub places : IsPermutation (range_with_len 0 (length things)) (map (λ key. key % step) keys)
