@@ -2,10 +2,11 @@
 use Rattle.std.proofs.Common.{◌≡◌, ℕ, ◌+◌, ◌/◌, ◌%◌, ◌^◌, ◌<◌, ◌≤◌, List}
 use Rattle.std.proofs.Common.{length, map, get_or, take, sym, ◌∙◌, ap, arith}
 use Rattle.std.specs.List.{All}
-use Rattle.std.specs.List.Sorted.{IsNonDecreasing, IsNonDecreasingBy}
+use Rattle.std.specs.List.Sorted.{IsNonDecreasing, IsNonDecreasingBy, IsPermutation}
 use Rattle.std.proofs.lemmas.List.{get_or-map, length-map}
 use Rattle.std.proofs.lemmas.List.Sorted.{All-permutation, length_permutation}
 use Rattle.oct_key.specs.PlaceKeys.{AreKeys, keyed_at}
+use Rattle.oct_key.proofs.PlaceKeys.{things_moved}
 use Rattle.oct_brick.specs.declared.brick.Brick.{Brick}
 use Rattle.oct_brick.specs.Bricks.{IsBrick}
 use Rattle.oct_brick.specs.Merge.{HasAdded, IsCodeOf}
@@ -25,6 +26,10 @@ abbrev pub bricks_of : List Brick → List ℕ → List Brick
 bricks_of bricks keys = map (brick_of bricks) keys
 
 module _ (bricks : List Brick) (keys : List ℕ) (are : AreKeys IsCodeOf (2 ^ 22) bricks keys) where
+  -- the bricks of the keys are those of the list, in another order
+  moved : IsPermutation bricks (bricks_of bricks keys)
+  moved = things_moved IsCodeOf (2 ^ 22) bricks keys nothing are
+
   within : (i : ℕ) → i < length (bricks_of bricks keys) → i < length keys
   within i l = omega (arith, l, length-map keys (brick_of bricks))
 
@@ -32,7 +37,7 @@ module _ (bricks : List Brick) (keys : List ℕ) (are : AreKeys IsCodeOf (2 ^ 22
   pub all_keyed : length keys ≡ length bricks
   all_keyed =
       sym (length-map keys (brick_of bricks))
-      ∙ length_permutation bricks (bricks_of bricks keys) (are.moved nothing)
+      ∙ length_permutation bricks (bricks_of bricks keys) moved
 
   -- the brick of the key at a place
   brick_at : (i e : ℕ) (d : Brick) → i < length keys
@@ -68,12 +73,12 @@ module _ (bricks : List Brick) (keys : List ℕ) (are : AreKeys IsCodeOf (2 ^ 22
       ∙ sym (brick_at i e nothing l) in
       taken_added (bricks_of bricks keys) ms ms' i nothing b
       (omega (arith, l, length-map keys (brick_of bricks)))
-      (All-permutation IsBrick bricks (bricks_of bricks keys) (are.moved nothing) h)
+      (All-permutation IsBrick bricks (bricks_of bricks keys) moved h)
       (codes_rise up) is_b added taken
 
   -- what all keys give
   pub keys_taken : (f : Brick → ℕ) (ms : List Brick) (i : ℕ) → length keys ≤ i
       → HasSame f (take i (bricks_of bricks keys)) ms → HasSame f bricks ms
   keys_taken f ms i l =
-      taken_permuted f bricks (bricks_of bricks keys) ms i (are.moved nothing)
+      taken_permuted f bricks (bricks_of bricks keys) ms i moved
       (omega (arith, l, length-map keys (brick_of bricks)))
