@@ -13,6 +13,7 @@ use Rattle.oct_key.specs.Boxes.{Window}
 use Rattle.oct_key.specs.Voxel.{IsResolution, key_at}
 use Rattle.oct_key.specs.PlaceKeys.{AreKeys, keyed_at}
 use Rattle.oct_key.specs.declared.point.Point.{Point}
+use Rattle.oct_key.proofs.PlaceKeys.{things_moved}
 use Rattle.oct_ray.specs.Met.{met_by}
 use Rattle.oct_ray.proofs.ComputedAxes.{met_by_walks}
 use Rattle.oct_brick.specs.declared.brick.Brick.{Brick}
@@ -105,7 +106,7 @@ pub all_moved : (edge : ℕ) (window : Option Window) (o : Point) (bs : List Pla
 all_moved edge window o bs keys i d bricks range origin placed are all h =
     let cs : List PlacedBeam = map (keyed_at (2 ^ 19) bs d) keys in
     held_moved edge window o (bare bs) (bare cs) bricks range origin (bare_inside edge bs placed)
-    (IsPermutation-map bare_beam bs cs (are.moved d))
+    (IsPermutation-map bare_beam bs cs (things_moved EndsIn (2 ^ 19) bs keys d are))
     (subst (λ (bs' : List Beam). HoldAllGathered edge window o bs' bricks)
     (take_all i (bare cs)
     (omega (arith, all, length-map keys (keyed_at (2 ^ 19) bs d), length-map cs bare_beam))) h)
