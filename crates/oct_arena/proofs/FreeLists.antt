@@ -1,6 +1,7 @@
 -- What the arena's calls do to the free list and to the entries, over plain memory.
 use Rattle.std.proofs.Common.{◌≡◌, ◌≢◌, ℕ, zero, suc, ◌+◌, ◌<◌, ◌≤◌, List, [], ◌∷◌, length, set}
-use Rattle.std.proofs.Common.{refl, sym, subst, ◌∙◌, ap, arith, inl, inr, Some, None, Option, true, cond}
+use Rattle.std.proofs.Common.{refl, sym, subst, ◌∙◌, ap, arith, inl, inr, Some, None, Option, true}
+use Rattle.std.proofs.Common.{cond}
 use Rattle.std.proofs.Common.{ℤ}
 use Rattle.std.specs.Prelude.{slice_set, is_some, is_none}
 use Rattle.std.proofs.lemmas.List.{get_or_past, length-set, set-set}
