@@ -32,7 +32,8 @@ parted n i e h = by_rest (n - i) i n e (omega arith)
     by_rest : (m i n e : ℕ) → n ≡ i + m → i * e + m * e ≡ n * e
     by_rest m i n e h = rw h (omega arith)
 
-pub taken_room : (a : Axis) (i : ℕ) → i ≤ a.crossings → HasRoom a → HasRoom (axis_after_crossings i a)
+pub taken_room : (a : Axis) (i : ℕ) → i ≤ a.crossings → HasRoom a
+    → HasRoom (axis_after_crossings i a)
 taken_room a i h room =
     let all = parted a.crossings i a.edge h in
     record {

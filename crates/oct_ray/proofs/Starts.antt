@@ -206,5 +206,5 @@ pub made_at : (res edge : ℕ) (o e : Point) (a b c : Axis) (x y z : Track) → 
     IsTrackOf x a b c → IsTrackOf y b c a → IsTrackOf z c a b
     → IsNewWalk res o e (keys_to_come (make_walk x y z true))
 made_at res edge o e a b c x y z h range ko ke m tx ty tz =
-    made_walk res o e a b c x y z (omega arith) ko ke (subst (λ (n : ℕ). AreAxesOf n o e a b c) h m) tx
-    ty tz
+    made_walk res o e a b c x y z (omega arith) ko ke
+    (subst (λ (n : ℕ). AreAxesOf n o e a b c) h m) tx ty tz

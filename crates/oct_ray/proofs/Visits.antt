@@ -447,7 +447,8 @@ keys_visited (suc f) x y z s r k h =
     ] refl
 
 -- an axis that is some crossings on has passed its next one
-pub next_crossing_passed : (a : Axis) (j : ℕ) (m : Moment) → HasRoom a → IsMoment m → IsAt a j m → 0 < j
+pub next_crossing_passed : (a : Axis) (j : ℕ) (m : Moment) → HasRoom a → IsMoment m → IsAt a j m
+    → 0 < j
     → NotAfter (next_crossing a) m
 next_crossing_passed a j m ia im i h =
     let c : NotAfter (next_crossing a) (crossing a (j - 1)) = omega arith in

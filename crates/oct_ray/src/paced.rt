@@ -180,8 +180,9 @@ impl PacedWalk {
     }
 
     /// The codes of the next two voxels, or of the next one twice, up to the next crossing of the
-    /// main axis. `None` where the third axis may cross first, or the last voxel may be among them,
-    /// and then the walk stays as it is.
+    /// main axis. `None` where the third axis may cross before the main one, either other one may
+    /// cross together with it, or the last voxel may be among them, and then the walk stays as it
+    /// is.
     #[inline(always)]
     pub fn next_pair(&mut self) -> Option<(u64, u64)>
         ensures next { IfSome result (λ codes.
