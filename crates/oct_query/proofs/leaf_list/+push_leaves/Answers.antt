@@ -17,14 +17,16 @@ use Rattle.oct_query.proofs.LeafWalks.{chosen_of_several, listed_none, listed_ne
 use Rattle.oct_query.proofs.LeafWalks.{listed_leaf, listed_unknown, some_leaf}
 use Rattle.oct_query.proofs.LeafBoxes.{none_sought}
 use Rattle.oct_query.proofs.leaf_list.+push_leaves.Goals as goal
-use Rattle.oct_query.proofs.leaf_list.+push_leaves.Goals.{in-Absent, in-Leaf+in_ok-push_block-in-Leaf}
+use Rattle.oct_query.proofs.leaf_list.+push_leaves.Goals.{in-Absent}
+use Rattle.oct_query.proofs.leaf_list.+push_leaves.Goals.{in-Leaf+in_ok-push_block-in-Leaf}
 use Rattle.oct_query.proofs.leaf_list.+push_leaves.Goals.{in-Inner-node+in_ok-push_leaves-in-Inner-node}
 
 pub returns-then-holds_none-clause-listed : goal.returns-then-holds_none-clause-listed
 returns-then-holds_none-clause-listed t c =
     sym (append-nil c.args.found.now)
     ∙ ap (λ l. c.args.found.now ++ l)
-    (sym (none_sought (value_at c.args.tree.now) c.args.tree.now.odds c.args.sought (cube_of c.args.block) (block_in_map c.args.block)
+    (sym (none_sought (value_at c.args.tree.now) c.args.tree.now.odds c.args.sought
+    (cube_of c.args.block) (block_in_map c.args.block)
     (c.holds_none.ensures.none c.if-holds_none.true)))
 
 pub returns-in_default : goal.returns-in_default
@@ -79,13 +81,15 @@ returns-in_err-push_leaves-in-Inner-node-clause-memory t c =
     c.in-Inner.ensures.linked c.requires.place (ap link_of (sym c.in-Inner.ensures.exact))
     c.requires.block in
     on_any_err c.from_residual-in_err-push_leaves-in-Inner-node.result _
-    (λ none. some_in_child (value_at c.args.tree.now) (those_sought c.args.tree.now.odds c.args.sought)
+    (λ none. some_in_child (value_at c.args.tree.now)
+    (those_sought c.args.tree.now.odds c.args.sought)
     (sought_choice c.args.tree.now.odds c.args.sought)
     (16 - (c.args.block.depth + 1)) (16 - c.child-in-Inner-node.result.depth) (cube_of c.args.block)
     (cube_of c.child-in-Inner-node.result) c.loop-i.i c.child-in-Inner-node.ensures.exact
     (ap (λ (b : Cube). 16 - b.depth) c.child-in-Inner-node.ensures.exact ∙ a.child c.loop-i.i)
     c.in_err-push_leaves-in-Inner-node.ensures.memory 8 (omega arith)
-    (sym (chosen_of_several (value_at c.args.tree.now) (those_sought c.args.tree.now.odds c.args.sought)
+    (sym (chosen_of_several (value_at c.args.tree.now)
+    (those_sought c.args.tree.now.odds c.args.sought)
     (16 - (c.args.block.depth + 1)) (cube_of c.args.block) a.ok a.next
     c.in_default-shared_value.ensures.exact) ∙ none))
 
@@ -99,7 +103,8 @@ returns-in_err-push_block-in-Leaf-clause-memory t c =
     (cube_of c.args.block) child c.loop-i.i c.in-Inner.ensures.linked c.requires.place
     (ap link_of (sym c.in-Inner.ensures.exact)) c.requires.block refl (omega arith) in
     on_any_err c.from_residual.result _
-    (λ none. some_in_child (value_at c.args.tree.now) (those_sought c.args.tree.now.odds c.args.sought)
+    (λ none. some_in_child (value_at c.args.tree.now)
+    (those_sought c.args.tree.now.odds c.args.sought)
     (sought_choice c.args.tree.now.odds c.args.sought)
     (16 - (c.args.block.depth + 1)) (16 - c.child.result.depth) (cube_of c.args.block)
     (cube_of c.child.result) c.loop-i.i c.child.ensures.exact
@@ -111,7 +116,8 @@ returns-in_err-push_block-in-Leaf-clause-memory t c =
     (λ k inside held. c.in-Leaf.ensures.values child at refl k inside
     (subst (λ (d : Cube). HoldsVoxel d k) c.child.ensures.exact held))
     c.in_err-push_block-in-Leaf.ensures.memory) 8 (omega arith)
-    (sym (chosen_of_several (value_at c.args.tree.now) (those_sought c.args.tree.now.odds c.args.sought)
+    (sym (chosen_of_several (value_at c.args.tree.now)
+    (those_sought c.args.tree.now.odds c.args.sought)
     (16 - (c.args.block.depth + 1)) (cube_of c.args.block) a.ok a.next
     c.in_default-shared_value.ensures.exact) ∙ none))
 
@@ -127,7 +133,8 @@ loop-i-preserved t c =
     elim c.match-node-2.branch [
       | in-Absent w ↦ record {
         listed = w.found-is ∙ listed_unknown (value_at c.args.tree.now)
-            (those_sought c.args.tree.now.odds c.args.sought) (sought_choice c.args.tree.now.odds c.args.sought)
+            (those_sought c.args.tree.now.odds c.args.sought)
+            (sought_choice c.args.tree.now.odds c.args.sought)
             (16 - (c.args.block.depth + 1)) (cube_of c.args.block) c.loop-i.i c.args.found.now
             c.loop-i.found c.loop-i.invariant.listed
             (place_in_map c.args.tree.now c.in-Inner.ensures.linked
@@ -151,7 +158,8 @@ loop-i-preserved t c =
       }
       | in-Inner-node+in_ok-push_leaves-in-Inner-node w ↦ record {
         listed = w.found-is ∙ listed_next (value_at c.args.tree.now)
-            (those_sought c.args.tree.now.odds c.args.sought) (sought_choice c.args.tree.now.odds c.args.sought)
+            (those_sought c.args.tree.now.odds c.args.sought)
+            (sought_choice c.args.tree.now.odds c.args.sought)
             (16 - (c.args.block.depth + 1)) (16 - w.child-in-Inner-node.result.depth)
             (cube_of c.args.block) (cube_of w.child-in-Inner-node.result) c.loop-i.i
             c.args.found.now c.loop-i.found _ c.loop-i.invariant.listed

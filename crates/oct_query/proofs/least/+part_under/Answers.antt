@@ -7,7 +7,8 @@ use Rattle.oct_query.specs.declared.least.Part.{Part}
 use Rattle.oct_tree.proofs.Over.{slot_home}
 use Rattle.oct_key.specs.Block.{child_of}
 use Rattle.oct_key.proofs.Blocks.{depth_child_of}
-use Rattle.oct_query.proofs.LeastParts.{IsCommon, IsNext, IsNextValue, after_first, after_later, finished_one}
+use Rattle.oct_query.proofs.LeastParts.{IsCommon, IsNext, IsNextValue, after_first, after_later}
+use Rattle.oct_query.proofs.LeastParts.{finished_one}
 use Rattle.oct_query.proofs.LeastParts.{finished_several, low_of, next_below, next_plain, one_fits}
 use Rattle.oct_query.proofs.LeastParts.{walked_child, walked_none}
 use Rattle.oct_query.proofs.Under.{few_all, few_next, sum_fits}
@@ -39,7 +40,8 @@ part_under-next-requires t c =
         child_of b c.loop-i.i,
         slot_home c.args.tree.now b c.args.id.number c.in-Some.below.number c.loop-i.i
             c.arena-arena.ensures.linked home
-            (ap (λ g. link_of (node_at g c.args.id.number c.loop-i.i)) (sym c.arena-arena.ensures.exact)
+            (ap (λ g. link_of (node_at g c.args.id.number c.loop-i.i))
+            (sym c.arena-arena.ensures.exact)
             ∙ sym c.in-Some.ensures.exact),
         omega (arith, down, deep),
       ),
@@ -52,16 +54,19 @@ overflow_add-groups t c =
     elim c.match-link.branch [
       | in-Some w ↦ subst (λ (part : Part). IsNext c.args.tree.now c.args.id.number c.args.depth
           c.loop-i.i part.value part.groups part.leaves) (sym w.next-is)
-          (next_below c.args.tree.now c.arena-arena.result.now c.args.id.number w.in-Some.below.number
+          (next_below c.args.tree.now c.arena-arena.result.now c.args.id.number
+          w.in-Some.below.number
           c.args.depth c.loop-i.i w.part_under-next.result.value w.part_under-next.result.groups
           w.part_under-next.result.leaves c.arena-arena.ensures.linked c.arena-arena.ensures.exact
           c.loop-i-test.true w.in-Some.ensures.exact w.part_under-next.ensures.part
           w.part_under-next.ensures.few)
       | in-None w ↦ subst (λ (part : Part). IsNext c.args.tree.now c.args.id.number c.args.depth
           c.loop-i.i part.value part.groups part.leaves) (sym w.next-is)
-          (next_plain c.args.tree.now c.arena-arena.result.now c.args.id.number c.args.depth c.loop-i.i
+          (next_plain c.args.tree.now c.arena-arena.result.now c.args.id.number c.args.depth
+          c.loop-i.i
           w.value.result w.of-next.result.value w.of-next.result.groups w.of-next.result.leaves
-          c.arena-arena.ensures.linked c.arena-arena.ensures.exact c.loop-i-test.true w.in-None.ensures.exact
+          c.arena-arena.ensures.linked c.arena-arena.ensures.exact c.loop-i-test.true
+          w.in-None.ensures.exact
           (w.value.ensures.exact ∙ ap value_of w.node.ensures.exact) w.of-next.ensures.value
           w.of-next.ensures.groups w.of-next.ensures.leaves)
     ] in
@@ -78,16 +83,19 @@ overflow_add-leaves t c =
     elim c.match-link.branch [
       | in-Some w ↦ subst (λ (part : Part). IsNext c.args.tree.now c.args.id.number c.args.depth
           c.loop-i.i part.value part.groups part.leaves) (sym w.next-is)
-          (next_below c.args.tree.now c.arena-arena.result.now c.args.id.number w.in-Some.below.number
+          (next_below c.args.tree.now c.arena-arena.result.now c.args.id.number
+          w.in-Some.below.number
           c.args.depth c.loop-i.i w.part_under-next.result.value w.part_under-next.result.groups
           w.part_under-next.result.leaves c.arena-arena.ensures.linked c.arena-arena.ensures.exact
           c.loop-i-test.true w.in-Some.ensures.exact w.part_under-next.ensures.part
           w.part_under-next.ensures.few)
       | in-None w ↦ subst (λ (part : Part). IsNext c.args.tree.now c.args.id.number c.args.depth
           c.loop-i.i part.value part.groups part.leaves) (sym w.next-is)
-          (next_plain c.args.tree.now c.arena-arena.result.now c.args.id.number c.args.depth c.loop-i.i
+          (next_plain c.args.tree.now c.arena-arena.result.now c.args.id.number c.args.depth
+          c.loop-i.i
           w.value.result w.of-next.result.value w.of-next.result.groups w.of-next.result.leaves
-          c.arena-arena.ensures.linked c.arena-arena.ensures.exact c.loop-i-test.true w.in-None.ensures.exact
+          c.arena-arena.ensures.linked c.arena-arena.ensures.exact c.loop-i-test.true
+          w.in-None.ensures.exact
           (w.value.ensures.exact ∙ ap value_of w.node.ensures.exact) w.of-next.ensures.value
           w.of-next.ensures.groups w.of-next.ensures.leaves)
     ] in
@@ -104,16 +112,19 @@ loop-i-preserved t c =
     elim c.match-link.branch [
       | in-Some w ↦ subst (λ (part : Part). IsNext c.args.tree.now c.args.id.number c.args.depth
           c.loop-i.i part.value part.groups part.leaves) (sym w.next-is)
-          (next_below c.args.tree.now c.arena-arena.result.now c.args.id.number w.in-Some.below.number
+          (next_below c.args.tree.now c.arena-arena.result.now c.args.id.number
+          w.in-Some.below.number
           c.args.depth c.loop-i.i w.part_under-next.result.value w.part_under-next.result.groups
           w.part_under-next.result.leaves c.arena-arena.ensures.linked c.arena-arena.ensures.exact
           c.loop-i-test.true w.in-Some.ensures.exact w.part_under-next.ensures.part
           w.part_under-next.ensures.few)
       | in-None w ↦ subst (λ (part : Part). IsNext c.args.tree.now c.args.id.number c.args.depth
           c.loop-i.i part.value part.groups part.leaves) (sym w.next-is)
-          (next_plain c.args.tree.now c.arena-arena.result.now c.args.id.number c.args.depth c.loop-i.i
+          (next_plain c.args.tree.now c.arena-arena.result.now c.args.id.number c.args.depth
+          c.loop-i.i
           w.value.result w.of-next.result.value w.of-next.result.groups w.of-next.result.leaves
-          c.arena-arena.ensures.linked c.arena-arena.ensures.exact c.loop-i-test.true w.in-None.ensures.exact
+          c.arena-arena.ensures.linked c.arena-arena.ensures.exact c.loop-i-test.true
+          w.in-None.ensures.exact
           (w.value.ensures.exact ∙ ap value_of w.node.ensures.exact) w.of-next.ensures.value
           w.of-next.ensures.groups w.of-next.ensures.leaves)
     ] in
@@ -131,9 +142,11 @@ loop-i-preserved t c =
           c.match-link.next.value c.if-i-eq0.value c.loop-i.groups c.loop-i.leaves
           c.match-link.next.groups c.match-link.next.leaves c.arena-arena.ensures.linked
           c.loop-i-test.true c.loop-i.invariant.walked next value;
-      groups = few_next c.loop-i.groups c.match-link.next.groups c.loop-i.i (9 ^ (15 - c.args.depth))
+      groups = few_next c.loop-i.groups c.match-link.next.groups c.loop-i.i
+          (9 ^ (15 - c.args.depth))
           c.loop-i.invariant.groups next.few_groups;
-      leaves = few_next c.loop-i.leaves c.match-link.next.leaves c.loop-i.i (9 ^ (15 - c.args.depth))
+      leaves = few_next c.loop-i.leaves c.match-link.next.leaves c.loop-i.i
+          (9 ^ (15 - c.args.depth))
           c.loop-i.invariant.leaves next.few_leaves;
     }
 
