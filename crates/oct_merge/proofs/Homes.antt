@@ -1,5 +1,6 @@
 -- The groups that a merge may take, counted at their homes.
-use Rattle.std.proofs.Common.{◌≡◌, ℕ, zero, suc, ◌+◌, ◌<◌, ◌≤◌, Bool, true, false, cond, [], ◌∷◌, Some}
+use Rattle.std.proofs.Common.{◌≡◌, ℕ, zero, suc, ◌+◌, ◌<◌, ◌≤◌, Bool, true, false, cond, [], ◌∷◌}
+use Rattle.std.proofs.Common.{Some}
 use Rattle.std.proofs.Common.{None, refl, sym, ◌∙◌, ap, arith}
 use Rattle.std.specs.Prelude.{Option, ◌&&◌, not, is_some, length}
 use Rattle.std.proofs.lemmas.List.Elements.{All-from_get_or}
@@ -110,7 +111,8 @@ live_at o b lo ok = elim (at_block o b lo ok) [
     some_there (Some g) h = refl
 
 -- where the first tree links one too, it is common, and else it is needed
-two_kinds : (a b : Bool) → cond {A = ℕ} a 1 0 ≡ cond {A = ℕ} (a && not b) 1 0 + cond {A = ℕ} (a && b) 1 0
+two_kinds : (a b : Bool)
+    → cond {A = ℕ} a 1 0 ≡ cond {A = ℕ} (a && not b) 1 0 + cond {A = ℕ} (a && b) 1 0
 two_kinds true true = refl
 two_kinds true false = refl
 two_kinds false b = refl

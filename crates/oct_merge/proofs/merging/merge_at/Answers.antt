@@ -10,7 +10,8 @@ use Rattle.oct_merge.proofs.merging.merge_at.Goals as goal
 
 pub returns-then-is_done-clause-touched : goal.returns-then-is_done-clause-touched
 returns-then-is_done-clause-touched c =
-    part_done c.args.tree.now c.args.other.now c.args.p (cube_of c.args.block) c.args.node c.args.rule
+    part_done c.args.tree.now c.args.other.now c.args.p (cube_of c.args.block) c.args.node
+    c.args.rule
     c.requires.linked c.requires.other.linked c.requires.place c.requires.block
     (block_in_map c.args.block) c.requires.over c.requires.odds
     (c.is_done.ensures.done c.if-is_done.true)
@@ -33,7 +34,8 @@ write_leaf-requires-clause-within c =
 pub returns-then-are_plain-clause-touched : goal.returns-then-are_plain-clause-touched
 returns-then-are_plain-clause-touched c =
     let plain = c.are_plain.ensures.0 c.if-are_plain.true in
-    c.write_leaf.ensures.touched (cube_of c.args.block) (events_of c.args.rule c.args.tree.now c.args.other.now)
+    c.write_leaf.ensures.touched (cube_of c.args.block)
+    (events_of c.args.rule c.args.tree.now c.args.other.now)
     (block_in_map c.args.block) c.requires.block
     (part_event c.args.tree.now c.args.other.now c.args.p (cube_of c.args.block) c.args.node
     c.args.rule c.requires.linked c.requires.place c.requires.block (block_in_map c.args.block)

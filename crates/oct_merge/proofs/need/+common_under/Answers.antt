@@ -28,8 +28,10 @@ loop-i-init t c =
     c.if-is_plain-2.false c.is_plain.ensures c.is_plain-2.ensures in
     record {
       counted =
-          sum_first (λ j. common_in c.args.into.now c.args.other.now (child_of (cube_of c.args.block) j))
-          (cond (is_common c.args.into.now c.args.other.now (cube_of c.args.block)) 1 0) 1 (sym here);
+          sum_first (λ j. common_in c.args.into.now c.args.other.now
+          (child_of (cube_of c.args.block) j))
+          (cond (is_common c.args.into.now c.args.other.now (cube_of c.args.block)) 1 0) 1
+          (sym here);
       few = omega arith;
     }
 
@@ -109,8 +111,10 @@ loop-i-preserved t c =
     (ap (λ d. 16 - d) level ∙ depths_down c.args.block.depth) c.common_under-common.ensures.few in
     record {
       counted =
-          sum_next (λ j. common_in c.args.into.now c.args.other.now (child_of (cube_of c.args.block) j))
-          (cond (is_common c.args.into.now c.args.other.now (cube_of c.args.block)) 1 0) _ _ _ c.loop-i.invariant.counted more;
+          sum_next (λ j. common_in c.args.into.now c.args.other.now
+          (child_of (cube_of c.args.block) j))
+          (cond (is_common c.args.into.now c.args.other.now (cube_of c.args.block)) 1 0) _ _ _
+          c.loop-i.invariant.counted more;
       few = few_next _ _ _ _ c.loop-i.invariant.few power;
     }
 
@@ -122,7 +126,8 @@ returns-clause-exact t c =
     c.is_plain.ensures in
     let last : c.loop-i.i ≡ 8 = omega arith in
     sum_last (λ j. common_in c.args.into.now c.args.other.now (child_of (cube_of c.args.block) j))
-    (cond (is_common c.args.into.now c.args.other.now (cube_of c.args.block)) 1 0) _ c.loop-i.i _ last c.loop-i.invariant.counted
+    (cond (is_common c.args.into.now c.args.other.now (cube_of c.args.block)) 1 0) _ c.loop-i.i _
+    last c.loop-i.invariant.counted
     (common_of_children c.args.into.now c.args.other.now (cube_of c.args.block) low)
 
 pub returns-clause-few : goal.returns-clause-few
