@@ -25,7 +25,8 @@ loop-byte-preserved c =
       taken
           ∙ ap (λ p. after_file_byte p (get_or c.args.piece.now c.loop-byte.byte-index 0))
           c.loop-byte.invariant.1
-          ∙ sym (fold_push after_file_byte c.args.self.now (take c.loop-byte.byte-index c.args.piece.now)
+          ∙ sym (fold_push after_file_byte c.args.self.now
+          (take c.loop-byte.byte-index c.args.piece.now)
           (get_or c.args.piece.now c.loop-byte.byte-index 0))
           ∙ ap (fold after_file_byte c.args.self.now)
           (sym (take_more c.args.piece.now c.loop-byte.byte-index 0 within)),
