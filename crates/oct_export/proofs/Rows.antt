@@ -86,12 +86,14 @@ pub row_cut : (c : Classes) (lo hi : Voxel) (y x next g : ℕ) (k : Class) → l
     → next ≤ hi.x + 1 → g ≡ grey_of k
     → ((m : ℕ) → x ≤ m → m < next → band_class c lo.z hi.z m y ≡ k)
     → (rest : List ℕ)
-    × (row_front grey_of c lo hi y (x - lo.x) ++ (replicate (next - x) g ++ rest) ≡ row_of c lo hi y)
+    × (row_front grey_of c lo hi y (x - lo.x) ++ (replicate (next - x) g ++ rest)
+    ≡ row_of c lo hi y)
 row_cut c lo hi y x next g k low up most grey same =
     let (rest, is) = row_rest grey_of c lo hi y (next - lo.x) (omega (arith, low, up, most)) in (
       rest,
       sym (append_parts (row_front grey_of c lo hi y (x - lo.x)) (replicate (next - x) g) rest)
-          ∙ ap (λ (l : List ℕ). l ++ rest) (row_more grey_of c lo hi y x next g k low up grey same) ∙ is,
+          ∙ ap (λ (l : List ℕ). l ++ rest) (row_more grey_of c lo hi y x next g k low up grey same)
+          ∙ is,
     )
   where
     append_parts : (a b d : List ℕ) → (a ++ b) ++ d ≡ a ++ (b ++ d)

@@ -42,5 +42,6 @@ loop-x-preserved g c = record {
 
 pub returns-clause-pushed : goal.returns-clause-pushed
 returns-clause-pushed g c = pushed_as _ _ _ _ _ _ c.loop-x.invariant.pushed
-    (row_whole grey_of (classes_in c.args.tree.now) c.args.lo c.args.hi c.args.y (c.loop-x.x - c.args.lo.x)
+    (row_whole grey_of (classes_in c.args.tree.now) c.args.lo c.args.hi c.args.y
+    (c.loop-x.x - c.args.lo.x)
     (omega arith))
