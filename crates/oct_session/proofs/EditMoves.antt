@@ -1,5 +1,6 @@
 -- A session that answers edits together.
-use Rattle.std.proofs.Common.{◌≡◌, ℕ, ◌+◌, ◌-◌, ◌*◌, ◌<◌, ◌≤◌, List, [], ◌∷◌, ◌++◌, length, take, false, ◌^◌}
+use Rattle.std.proofs.Common.{◌≡◌, ℕ, ◌+◌, ◌-◌, ◌*◌, ◌<◌, ◌≤◌, List, [], ◌∷◌, ◌++◌, length, take}
+use Rattle.std.proofs.Common.{false, ◌^◌}
 use Rattle.std.proofs.Common.{Option, Some, None, Result, Ok, Err, inl, inr, refl, sym, ap, subst}
 use Rattle.std.proofs.Common.{◌∙◌, arith, append_assoc}
 use Rattle.std.specs.Prelude.{is_some, Bool}
@@ -256,8 +257,8 @@ halted_edit short fault o files lines more w a b first front behind edit told un
                   ∙ ap (λ x. x ++ told) (sym late.text));
               more = inl some;
             };
-            has_left = left_all o (file_saved (next_command q cut.line)) (b.desk first) q r told fault
-                ran
+            has_left = left_all o (file_saved (next_command q cut.line)) (b.desk first) q r told
+                fault ran
                 (like_edits o a b first p r (front ++ edit ∷ []) done at.between.like history
                 (last.files ∙ late.files));
             asked = asked_edits a b first p r (front ++ edit ∷ []) done at.between.asked

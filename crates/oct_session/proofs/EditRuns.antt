@@ -13,7 +13,8 @@ use Rattle.std.proofs.lemmas.List.Sums.{fold-append}
 use Rattle.oct_io.specs.Files.{Files}
 use Rattle.oct_map.specs.Edits.{IsSureOf}
 use Rattle.oct_map.specs.Map.{Map}
-use Rattle.oct_script.specs.Lines.{Line, LineSoFar, Text, Long, unread, whole, ended_lines, IsReading}
+use Rattle.oct_script.specs.Lines.{Line, LineSoFar, Text, Long, unread, whole, ended_lines}
+use Rattle.oct_script.specs.Lines.{IsReading}
 use Rattle.oct_script.specs.Lines.{HasEnded}
 use Rattle.oct_script.specs.Replies.{text_of, is_refusal}
 use Rattle.oct_script.specs.declared.command.Command.{Command}

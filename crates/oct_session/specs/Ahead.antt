@@ -1,6 +1,7 @@
 -- Edits of single voxels whose replies are written together, before they are done.
 use Rattle.std.specs.Prelude.{◌≡◌, ℕ, zero, suc, ◌+◌, ◌*◌, ◌<◌, ◌≤◌, List, [], ◌∷◌, ◌++◌}
-use Rattle.std.specs.Prelude.{length, map, take, ⊤, Some, IsSome, Ok, All, false, OnOk, OnErr, Result}
+use Rattle.std.specs.Prelude.{length, map, take, ⊤, Some, IsSome, Ok, All, false, OnOk, OnErr}
+use Rattle.std.specs.Prelude.{Result}
 use Rattle.oct_key.specs.Voxel.{key_at}
 use Rattle.oct_io.specs.Counts.{IsWriteCounted}
 use Rattle.oct_io.specs.Told.{appended}
