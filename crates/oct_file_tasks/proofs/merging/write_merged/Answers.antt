@@ -8,7 +8,8 @@ use Rattle.oct_file_tasks.proofs.merging.write_merged.Goals as goal
 
 pub returns-in_err-file-clause-sends : goal.returns-in_err-file-clause-sends
 returns-in_err-file-clause-sends g c =
-    sends_none c.from_residual.result (merged_text c.args.rule c.args.pair.now) _ c.from_residual.ensures.0
+    sends_none c.from_residual.result (merged_text c.args.rule c.args.pair.now) _
+    c.from_residual.ensures.0
     (some_merged c.args.rule c.args.pair.now)
 
 pub returns-in_err-rewrite-clause-sends : goal.returns-in_err-rewrite-clause-sends
