@@ -31,8 +31,9 @@
 //!   refused. [`edits::octofix_edit_all`] is a chain of single edits (`AreEdits`).
 //! - **Grids.** [`grids::octofix_grid`] writes what the columns of a box show (`cells_between`).
 //! - **Two maps.** What a merge leaves of both is said by their maps before (`AreMerged`), and of
-//!   two handles that aren't one; a merge of a moved map leaves the other one (`AreShiftMerged`). A
-//!   copy has the value of its map, whole.
+//!   two handles that aren't one; so is what a merge of a moved map leaves of its own
+//!   (`AreShiftMerged`), and it leaves the other one (`same`). A copy has the value of its map,
+//!   whole.
 //! - **The handle.** A call on a handle without a map is refused and leaves it so, a second open is
 //!   refused and leaves the map, and a close leaves none. The handle owns its map alone: who holds
 //!   it may change the map, and nobody else can.
