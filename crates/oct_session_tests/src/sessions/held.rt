@@ -111,20 +111,31 @@ fn expect_held(
     Ok(())
 }
 
+/// The number of the write that fails, how the session ends, and how many bytes it has written.
+type Held = (u64, (Status, usize));
+
+/// What is written of the replies to the queries.
+const ANSWERED: &[Held] = &[
+    (1, (Status::WriteFault, 0)),
+    (2, (Status::WriteFault, 4096)),
+    (3, (Status::WriteFault, 8192)),
+    (4, (Status::WriteFault, 10_080)),
+    (5, (Status::Done, 10_400)),
+];
+
+/// Expects what each row of a table says of the queries.
+fn expect_all_held(rt: &impl Abort, alloc: Global, rows: &[Held]) -> Result<(), Fail> {
+    for (number, want) in rows {
+        expect_held(rt, alloc, *number, *want)?;
+    }
+    Ok(())
+}
+
 // A read gives 16,384 bytes, in which 1,260 queries end, and each reply has 8 bytes: 512 replies
 // are 4,096 bytes, and are written at once.
 #[test]
 fn replies_are_held_up_to_their_limit_and_within_one_read(rt: HostRuntime) -> Result<(), Fail> {
-    let fault = Status::WriteFault;
-    for (number, want) in [
-        (1, (fault, 0)),
-        (2, (fault, 4096)),
-        (3, (fault, 8192)),
-        (4, (fault, 10_080)),
-        (5, (Status::Done, 10_400)),
-    ] {
-        expect_held(&rt, rt.alloc(), number, want)?;
-    }
+    expect_all_held(&rt, rt.alloc(), ANSWERED)?;
     Ok(())
 }
 
@@ -151,20 +162,28 @@ fn expect_together(
     Ok(())
 }
 
+/// What is written of the replies to the edits.
+const EDITED: &[Held] = &[
+    (1, (Status::WriteFault, 0)),
+    (2, (Status::WriteFault, 3)),
+    (3, (Status::WriteFault, 51)),
+    (20, (Status::WriteFault, 867)),
+    (21, (Status::Done, 900)),
+];
+
+/// Expects what each row of a table says of the edits.
+fn expect_all_together(rt: &impl Abort, alloc: Global, rows: &[Held]) -> Result<(), Fail> {
+    for (number, want) in rows {
+        expect_together(rt, alloc, *number, *want)?;
+    }
+    Ok(())
+}
+
 // The first edit takes memory, so it stands alone. Of the 299 others 16 share a write, and the last
 // 11: with the first reply these are 20 writes.
 #[test]
 fn edits_that_take_no_memory_share_a_write(rt: HostRuntime) -> Result<(), Fail> {
-    let fault = Status::WriteFault;
-    for (number, want) in [
-        (1, (fault, 0)),
-        (2, (fault, 3)),
-        (3, (fault, 51)),
-        (20, (fault, 867)),
-        (21, (Status::Done, 900)),
-    ] {
-        expect_together(&rt, rt.alloc(), number, want)?;
-    }
+    expect_all_together(&rt, rt.alloc(), EDITED)?;
     Ok(())
 }
 
