@@ -1,7 +1,7 @@
--- Voxels of a walk that are marked one after another, or two at once.
-use Rattle.std.proofs.Common.{◌≡◌, ◌≢◌, ℕ, ◌≤◌, ◌⊎◌, ◌↔◌, inl, inr, List, [], ◌∷◌, ◌++◌}
-use Rattle.std.proofs.Common.{map, length, take, None, Option, Some, IfSome, refl, sym, subst, ◌∙◌}
-use Rattle.std.proofs.Common.{ap, arith, append_assoc}
+-- Voxels of a walk that are marked one after another.
+use Rattle.std.proofs.Common.{◌≡◌, ◌≢◌, ℕ, ◌≤◌, ◌⊎◌, ◌↔◌, inl, inr, List, [], ◌∷◌}
+use Rattle.std.proofs.Common.{◌++◌, map, length, take, None, Option, Some, IfSome, refl, sym}
+use Rattle.std.proofs.Common.{subst, ◌∙◌, ap, arith, append_assoc}
 use Rattle.std.specs.List.{All, Contains}
 use Rattle.std.proofs.lemmas.List.Elements.{All-contains, Contains-push, Contains-push_cases}
 use Rattle.std.proofs.lemmas.List.Elements.{Contains-append_cases, Contains-append_left}
@@ -11,42 +11,27 @@ use Rattle.oct_key.specs.Voxel.{Voxel, IsInMap}
 use Rattle.oct_key.specs.Morton.{morton_of}
 use Rattle.oct_key.proofs.Interleavings.{morton_injective}
 use Rattle.oct_ray.specs.Given.{HasGiven}
-use Rattle.oct_ray.specs.Paced.{HasGivenPair}
 use Rattle.oct_brick.specs.declared.brick.Brick.{Brick}
-use Rattle.oct_brick.specs.Bricks.{scanned_codes, hit_codes, IsBrick}
+use Rattle.oct_brick.specs.Bricks.{hit_codes, IsBrick}
 use Rattle.oct_brick.proofs.Lists.{all_contained, contains_from_map, contains_cases}
 use Rattle.oct_brick.proofs.Lists.{contains_map, contains_none}
-use Rattle.oct_scan.specs.Gathered.{EndsAt, IsCurrent, IsHeld, IsRestAdded, IsWayAdded}
-use Rattle.oct_scan.specs.Marked.{AreMarked, ArePushed, AreTaken, with_table}
+use Rattle.oct_scan.specs.Gathered.{EndsAt, IsWayAdded}
+use Rattle.oct_scan.specs.Marked.{AreMarked, AreMarkedTo, with_table}
 use Rattle.oct_scan.specs.Piled.{IsVoxelAdded}
 use Rattle.oct_scan.proofs.Ends.{end_later}
 
-taken_none : (walk : List Voxel) (P : ℕ → Type 0) → AreTaken walk walk P P
-taken_none walk P = record {
+pub marked_none : (walk : List Voxel) (bs : List Brick) → All IsBrick bs → AreMarked walk walk bs bs
+marked_none walk bs bricks = record {
   front = [];
   parted = refl;
   some = λ s. s;
   on_map = all_contained IsInMap [] (λ k h. absurd (contains_none k h));
-  codes = λ c. (
+  scanned = λ c. (
     λ h. inl h,
     λ h. elim h [ inl k ↦ k | inr k ↦ absurd (contains_none c k) ],
   );
-}
-
-pub marked_none : (walk : List Voxel) (bs : List Brick) → All IsBrick bs → AreMarked walk walk bs bs
-marked_none walk bs bricks = record {
-  taken = taken_none walk (Contains (scanned_codes bs));
   hits = λ c. (λ h. h, λ h. h);
   bricks = bricks;
-}
-
-pub pushed_none : (walk : List Voxel) (bs : List Brick) (b : Brick) → All IsBrick bs → IsCurrent b
-    → ArePushed walk walk bs b bs b
-pushed_none walk bs b bricks current = record {
-  taken = taken_none walk (IsHeld bs b);
-  hits = λ c. (λ h. h, λ h. h);
-  bricks = bricks;
-  current = current;
 }
 
 -- the codes of one voxel more
@@ -70,66 +55,6 @@ code_more front k c = (
   ],
 )
 
--- one code more
-abbrev pub HasMoreCode : ℕ → (ℕ → Type 0) → (ℕ → Type 0) → Type 0
-HasMoreCode code before after = (c : ℕ) → after c ↔ (before c ⊎ (code ≡ c))
-
--- one voxel more
-taken_one : (walk rest rest' : List Voxel) (P Q R : ℕ → Type 0) (code : ℕ)
-    → AreTaken walk rest P Q → HasGiven rest rest' code → rest' ≢ [] → HasMoreCode code Q R
-    → AreTaken walk rest' P R
-taken_one walk rest rest' P Q R code m g more a = record {
-  front = m.front ++ g.voxel ∷ [];
-  parted = m.parted ∙ ap (λ (ks : List Voxel). m.front ++ ks) g.first
-      ∙ sym (append_assoc m.front (g.voxel ∷ []) rest');
-  some = λ _. more;
-  on_map = all_contained IsInMap (m.front ++ g.voxel ∷ [])
-      (λ k h. elim (Contains-push_cases m.front g.voxel k h) [
-        | inl p ↦ All-contains IsInMap m.front k m.on_map p
-        | inr e ↦ subst IsInMap e g.on_map
-      ]);
-  codes = λ c. (
-    λ h. elim ((a c).0 h) [
-      | inl k ↦ elim ((m.codes c).0 k) [
-        | inl p ↦ inl p
-        | inr p ↦ inr ((code_more m.front g.voxel c).1 (inl p))
-      ]
-      | inr e ↦ inr ((code_more m.front g.voxel c).1 (inr (sym g.coded ∙ e)))
-    ],
-    λ h. (a c).1 (elim h [
-      | inl p ↦ inl ((m.codes c).1 (inl p))
-      | inr p ↦ elim ((code_more m.front g.voxel c).0 p) [
-        | inl q ↦ inl ((m.codes c).1 (inr q))
-        | inr e ↦ inr (g.coded ∙ e)
-      ]
-    ]),
-  );
-}
-
--- a code that comes twice comes once
-more_again : (first second : ℕ) (P Q R : ℕ → Type 0) → first ≡ second → HasMoreCode first P Q
-    → HasMoreCode second Q R → HasMoreCode first P R
-more_again first second P Q R same a b = λ c. (
-  λ h. elim ((b c).0 h) [ inl k ↦ (a c).0 k | inr e ↦ inr (same ∙ e) ],
-  λ h. (b c).1 (inl ((a c).1 h)),
-)
-
-given_some : (old new : List Voxel) (code : ℕ) → HasGiven old new code → old ≢ []
-given_some old new code g none = absurd (let h : ⊥ = cc (sym g.first ∙ none) in h)
-
--- two voxels more, or one
-taken_pair : (walk rest rest' : List Voxel) (P Q S R : ℕ → Type 0) (first second : ℕ)
-    → AreTaken walk rest P Q → HasGivenPair rest rest' first second → rest' ≢ []
-    → HasMoreCode first Q S → HasMoreCode second S R → AreTaken walk rest' P R
-taken_pair walk rest rest' P Q S R first second m g more a b = elim g.next [
-  | inl same ↦ taken_one walk rest rest' P Q R first m
-      (subst (λ (ks : List Voxel). HasGiven rest ks first) same.0 g.given) more
-      (more_again first second Q S R same.1 a b)
-  | inr later ↦ taken_one walk g.middle rest' P S R second
-      (taken_one walk rest g.middle P Q S first m g.given
-      (given_some g.middle rest' second later) a) later more b
-]
-
 -- what stays the same twice stays the same
 stays_so : (P Q R : ℕ → Type 0) → ((c : ℕ) → Q c ↔ P c) → ((c : ℕ) → R c ↔ Q c)
     → (c : ℕ) → R c ↔ P c
@@ -139,68 +64,68 @@ stays_so P Q R a b c = (λ h. (a c).0 ((b c).0 h), λ h. (b c).1 ((a c).1 h))
 abbrev hit_in : List Brick → ℕ → Type 0
 hit_in bs c = Contains (hit_codes bs) c
 
--- and those that they change
-abbrev in_all : List Brick → ℕ → Type 0
-in_all bs c = Contains (scanned_codes bs) c
-
+-- one voxel more
 pub marked_one : (walk rest rest' : List Voxel) (old mid new : List Brick) (code : ℕ)
     → AreMarked walk rest old mid → HasGiven rest rest' code → rest' ≢ []
     → IsVoxelAdded code mid new → AreMarked walk rest' old new
 marked_one walk rest rest' old mid new code m g more a = record {
-  taken = taken_one walk rest rest' (in_all old) (in_all mid) (in_all new) code m.taken g more
-      a.scanned;
+  front = m.front ++ g.voxel ∷ [];
+  parted = m.parted ∙ ap (λ (ks : List Voxel). m.front ++ ks) g.first
+      ∙ sym (append_assoc m.front (g.voxel ∷ []) rest');
+  some = λ _. more;
+  on_map = all_contained IsInMap (m.front ++ g.voxel ∷ [])
+      (λ k h. elim (Contains-push_cases m.front g.voxel k h) [
+        | inl p ↦ All-contains IsInMap m.front k m.on_map p
+        | inr e ↦ subst IsInMap e g.on_map
+      ]);
+  scanned = λ c. (
+    λ h. elim ((a.scanned c).0 h) [
+      | inl k ↦ elim ((m.scanned c).0 k) [
+        | inl p ↦ inl p
+        | inr p ↦ inr ((code_more m.front g.voxel c).1 (inl p))
+      ]
+      | inr e ↦ inr ((code_more m.front g.voxel c).1 (inr (sym g.coded ∙ e)))
+    ],
+    λ h. (a.scanned c).1 (elim h [
+      | inl p ↦ inl ((m.scanned c).1 (inl p))
+      | inr p ↦ elim ((code_more m.front g.voxel c).0 p) [
+        | inl q ↦ inl ((m.scanned c).1 (inr q))
+        | inr e ↦ inr (g.coded ∙ e)
+      ]
+    ]),
+  );
   hits = stays_so (hit_in old) (hit_in mid) (hit_in new) m.hits a.hits;
   bricks = a.bricks;
 }
 
-pub marked_pair : (walk rest rest' : List Voxel) (old mid next new : List Brick)
-    (first second : ℕ) → AreMarked walk rest old mid → HasGivenPair rest rest' first second
-    → rest' ≢ [] → IsVoxelAdded first mid next → IsVoxelAdded second next new
-    → AreMarked walk rest' old new
-marked_pair walk rest rest' old mid next new first second m g more a b = record {
-  taken = taken_pair walk rest rest' (in_all old) (in_all mid) (in_all next) (in_all new) first
-      second m.taken g more a.scanned b.scanned;
-  hits = stays_so (hit_in old) (hit_in next) (hit_in new)
-      (stays_so (hit_in old) (hit_in mid) (hit_in next) m.hits a.hits) b.hits;
-  bricks = b.bricks;
-}
-
--- bricks and a current one have one code more
-pub record HasPushed (code : ℕ) (old : List Brick) (brick : Brick) (new : List Brick)
-    (next : Brick) : Type 0 where
-  pub scanned : (c : ℕ) → IsHeld new next c ↔ (IsHeld old brick c ⊎ (code ≡ c))
-  pub hits : (c : ℕ) → Contains (hit_codes new) c ↔ Contains (hit_codes old) c
-  pub bricks : All IsBrick new
-  pub current : IsCurrent next
-
-pub pushed_one : (walk rest rest' : List Voxel) (old mid new : List Brick) (b bm b' : Brick)
-    (code : ℕ) → ArePushed walk rest old b mid bm → HasGiven rest rest' code → rest' ≢ []
-    → HasPushed code mid bm new b' → ArePushed walk rest' old b new b'
-pushed_one walk rest rest' old mid new b bm b' code m g more a = record {
-  taken = taken_one walk rest rest' (IsHeld old b) (IsHeld mid bm) (IsHeld new b') code m.taken g
-      more a.scanned;
-  hits = stays_so (hit_in old) (hit_in mid) (hit_in new) m.hits a.hits;
-  bricks = a.bricks;
-  current = a.current;
-}
-
-pub pushed_pair : (walk rest rest' : List Voxel) (old mid next new : List Brick)
-    (b bm bn b' : Brick) (first second : ℕ) → ArePushed walk rest old b mid bm
-    → HasGivenPair rest rest' first second → rest' ≢ [] → HasPushed first mid bm next bn
-    → HasPushed second next bn new b' → ArePushed walk rest' old b new b'
-pushed_pair walk rest rest' old mid next new b bm bn b' first second m g more a d = record {
-  taken = taken_pair walk rest rest' (IsHeld old b) (IsHeld mid bm) (IsHeld next bn)
-      (IsHeld new b') first second m.taken g more a.scanned d.scanned;
-  hits = stays_so (hit_in old) (hit_in next) (hit_in new)
-      (stays_so (hit_in old) (hit_in mid) (hit_in next) m.hits a.hits) d.hits;
-  bricks = d.bricks;
-  current = d.current;
-}
+-- the codes of more voxels
+codes_on : (front later : List Voxel) (c : ℕ)
+    → Contains (map morton_of (front ++ later)) c
+    ↔ (Contains (map morton_of front) c ⊎ Contains (map morton_of later) c)
+codes_on front later c = (
+  λ h. let r = contains_from_map morton_of (front ++ later) c h in
+      elim (Contains-append_cases front later r.0 r.1) [
+        | inl p ↦ inl (subst (Contains (map morton_of front)) r.2
+            (contains_map morton_of front r.0 p))
+        | inr p ↦ inr (subst (Contains (map morton_of later)) r.2
+            (contains_map morton_of later r.0 p))
+      ],
+  λ h. elim h [
+    | inl p ↦ let r = contains_from_map morton_of front c p in
+        subst (Contains (map morton_of (front ++ later))) r.2
+        (contains_map morton_of (front ++ later) r.0
+        (Contains-append_left front later r.0 r.1))
+    | inr p ↦ let r = contains_from_map morton_of later c p in
+        subst (Contains (map morton_of (front ++ later))) r.2
+        (contains_map morton_of (front ++ later) r.0
+        (Contains-append_right front later r.0 r.1))
+  ],
+)
 
 -- and more of what is left
-taken_on : (walk mid rest : List Voxel) (P Q R : ℕ → Type 0) → AreTaken walk mid P Q
-    → AreTaken mid rest Q R → AreTaken walk rest P R
-taken_on walk mid rest P Q R m n = record {
+marked_on : (walk mid rest : List Voxel) (old bs new : List Brick) → AreMarked walk mid old bs
+    → AreMarked mid rest bs new → AreMarked walk rest old new
+marked_on walk mid rest old bs new m n = record {
   front = m.front ++ n.front;
   parted = m.parted ∙ ap (λ (ks : List Voxel). m.front ++ ks) n.parted
       ∙ sym (append_assoc m.front n.front rest);
@@ -210,64 +135,33 @@ taken_on walk mid rest P Q R m n = record {
         | inl p ↦ All-contains IsInMap m.front k m.on_map p
         | inr p ↦ All-contains IsInMap n.front k n.on_map p
       ]);
-  codes = λ c. (
-    λ h. elim ((n.codes c).0 h) [
-      | inl k ↦ elim ((m.codes c).0 k) [
+  scanned = λ c. (
+    λ h. elim ((n.scanned c).0 h) [
+      | inl k ↦ elim ((m.scanned c).0 k) [
         | inl p ↦ inl p
         | inr p ↦ inr ((codes_on m.front n.front c).1 (inl p))
       ]
       | inr k ↦ inr ((codes_on m.front n.front c).1 (inr k))
     ],
-    λ h. (n.codes c).1 (elim h [
-      | inl p ↦ inl ((m.codes c).1 (inl p))
+    λ h. (n.scanned c).1 (elim h [
+      | inl p ↦ inl ((m.scanned c).1 (inl p))
       | inr p ↦ elim ((codes_on m.front n.front c).0 p) [
-        | inl q ↦ inl ((m.codes c).1 (inr q))
+        | inl q ↦ inl ((m.scanned c).1 (inr q))
         | inr q ↦ inr q
       ]
     ]),
   );
-}
-  where
-    codes_on : (front later : List Voxel) (c : ℕ)
-        → Contains (map morton_of (front ++ later)) c
-        ↔ (Contains (map morton_of front) c ⊎ Contains (map morton_of later) c)
-    codes_on front later c = (
-      λ h. let r = contains_from_map morton_of (front ++ later) c h in
-          elim (Contains-append_cases front later r.0 r.1) [
-            | inl p ↦ inl (subst (Contains (map morton_of front)) r.2
-                (contains_map morton_of front r.0 p))
-            | inr p ↦ inr (subst (Contains (map morton_of later)) r.2
-                (contains_map morton_of later r.0 p))
-          ],
-      λ h. elim h [
-        | inl p ↦ let r = contains_from_map morton_of front c p in
-            subst (Contains (map morton_of (front ++ later))) r.2
-            (contains_map morton_of (front ++ later) r.0
-            (Contains-append_left front later r.0 r.1))
-        | inr p ↦ let r = contains_from_map morton_of later c p in
-            subst (Contains (map morton_of (front ++ later))) r.2
-            (contains_map morton_of (front ++ later) r.0
-            (Contains-append_right front later r.0 r.1))
-      ],
-    )
-
-pub marked_on : (walk mid rest : List Voxel) (old bs new : List Brick) → AreMarked walk mid old bs
-    → AreMarked mid rest bs new → AreMarked walk rest old new
-marked_on walk mid rest old bs new m n = record {
-  taken = taken_on walk mid rest (in_all old) (in_all bs) (in_all new) m.taken n.taken;
   hits = stays_so (hit_in old) (hit_in bs) (hit_in new) m.hits n.hits;
   bricks = n.bricks;
 }
 
-pub pushed_on : (walk mid rest : List Voxel) (old bs new : List Brick) (b bm b' : Brick)
-    → ArePushed walk mid old b bs bm → ArePushed mid rest bs bm new b'
-    → ArePushed walk rest old b new b'
-pushed_on walk mid rest old bs new b bm b' m n = record {
-  taken = taken_on walk mid rest (IsHeld old b) (IsHeld bs bm) (IsHeld new b') m.taken n.taken;
-  hits = stays_so (hit_in old) (hit_in bs) (hit_in new) m.hits n.hits;
-  bricks = n.bricks;
-  current = n.current;
-}
+-- those up to a voxel, and then that one
+pub marked_past : (walk mid rest : List Voxel) (old bs next new : List Brick) (code : ℕ)
+    → AreMarked walk mid old bs → AreMarkedTo code mid rest bs next → IsVoxelAdded code next new
+    → AreMarked walk rest old new
+marked_past walk mid rest old bs next new code m n a =
+    marked_one walk n.left rest old next new code (marked_on walk mid n.left old bs next m n.marked)
+    n.given n.more a
 
 -- where a walk ends at a voxel, that is its last one, and none of those before
 ends_apart : (front : List Voxel) (end k : Voxel) → EndsAt end (front ++ k ∷ [])
@@ -295,57 +189,38 @@ left_one (k ∷ []) some few = (k, refl)
 left_one (k ∷ l ∷ ks) some few = absurd (omega (arith, few))
 
 -- where one voxel is left at most, all but that of the end have come
-taken_all : (walk rest : List Voxel) (P Q : ℕ → Type 0) → AreTaken walk rest P Q
-    → length rest ≤ 1 → (end : Voxel) → IsInMap end → EndsAt end walk
-    → (c : ℕ) → Q c ↔ (P c ⊎ (Contains (map morton_of walk) c × (morton_of end ≢ c)))
-taken_all walk rest P Q m few end on_map ends =
+pub marked_all : (walk mid rest : List Voxel) (old bs new : List Brick)
+    → AreMarked walk mid old bs → AreMarked mid rest bs new → length rest ≤ 1 → (end : Voxel)
+    → IsInMap end → EndsAt end walk → IsWayAdded None (morton_of end) walk old new
+marked_all walk mid rest old bs new first then few end on_map ends =
+    let m : AreMarked walk rest old new = marked_on walk mid rest old bs new first then in
     let some : walk ≢ [] = λ none. subst (EndsAt end) none ends in
     let (k, one) = left_one rest (m.some some) few in
     let whole = m.parted ∙ ap (λ (ks : List Voxel). m.front ++ ks) one in
     let apart = ends_apart m.front end k (subst (EndsAt end) whole ends) in
     let all = sym (ap (map morton_of) whole) in
-    λ c. (
-      λ h. elim ((m.codes c).0 h) [
-        | inl p ↦ inl p
-        | inr p ↦ let r = contains_from_map morton_of m.front c p in inr (
-          subst (λ (cs : List ℕ). Contains cs c) all ((code_more m.front k c).1 (inl p)),
-          λ e. apart.1 r.0 r.1 (morton_injective r.0 end
-              (All-contains IsInMap m.front r.0 m.on_map r.1) on_map (r.2 ∙ sym e)),
-        )
-      ],
-      λ h. (m.codes c).1 (elim h [
-        | inl p ↦ inl p
-        | inr p ↦ elim ((code_more m.front k c).0
-            (subst (λ (cs : List ℕ). Contains cs c) (sym all) p.0)) [
-              | inl q ↦ inr q
-              | inr e ↦ absurd (p.1 (sym (ap morton_of apart.0) ∙ e))
-            ]
-      ]),
-    )
-
-pub marked_all : (walk rest : List Voxel) (old new : List Brick) → AreMarked walk rest old new
-    → length rest ≤ 1 → (end : Voxel) → IsInMap end → EndsAt end walk
-    → IsWayAdded None (morton_of end) walk old new
-marked_all walk rest old new m few end on_map ends = record {
-  scanned = taken_all walk rest (in_all old) (in_all new) m.taken few end on_map ends;
-  hits = m.hits;
-  bricks = m.bricks;
-}
-
--- and where the current brick was added, too
-pub pushed_all : (walk rest : List Voxel) (old bs new : List Brick) (b bm : Brick)
-    → ArePushed walk rest old b bs bm → length rest ≤ 1
-    → ((c : ℕ) → Contains (scanned_codes new) c ↔ IsHeld bs bm c)
-    → ((c : ℕ) → Contains (hit_codes new) c ↔ Contains (hit_codes bs) c) → All IsBrick new
-    → (end : Voxel) → IsInMap end → EndsAt end walk
-    → IsRestAdded None (morton_of end) walk b old new
-pushed_all walk rest old bs new b bm m few last hits bricks end on_map ends = record {
-  scanned = λ c.
-      let all = taken_all walk rest (IsHeld old b) (IsHeld bs bm) m.taken few end on_map ends c in
-      (λ h. all.0 ((last c).0 h), λ h. (last c).1 (all.1 h));
-  hits = stays_so (hit_in old) (hit_in bs) (hit_in new) m.hits hits;
-  bricks = bricks;
-}
+    record {
+      scanned = λ c. (
+        λ h. elim ((m.scanned c).0 h) [
+          | inl p ↦ inl p
+          | inr p ↦ let r = contains_from_map morton_of m.front c p in inr (
+            subst (λ (cs : List ℕ). Contains cs c) all ((code_more m.front k c).1 (inl p)),
+            λ e. apart.1 r.0 r.1 (morton_injective r.0 end
+                (All-contains IsInMap m.front r.0 m.on_map r.1) on_map (r.2 ∙ sym e)),
+          )
+        ],
+        λ h. (m.scanned c).1 (elim h [
+          | inl p ↦ inl p
+          | inr p ↦ elim ((code_more m.front k c).0
+              (subst (λ (cs : List ℕ). Contains cs c) (sym all) p.0)) [
+                | inl q ↦ inr q
+                | inr e ↦ absurd (p.1 (sym (ap morton_of apart.0) ∙ e))
+              ]
+        ]),
+      );
+      hits = m.hits;
+      bricks = m.bricks;
+    }
 
 -- the elements of a vector whose slice was written whole
 pub kept_items : (n : ℕ) (xs rest : List Brick) → length xs ≡ n → take n (xs ++ rest) ≡ xs
@@ -353,15 +228,14 @@ kept_items n xs rest e =
     ap (λ (k : ℕ). take k (xs ++ rest)) (sym e) ∙ take-append_seam xs rest
 
 -- a way that was added to a pile with a table beside it
-pub way_tabled : (walk same : List Voxel) (old pile pile' places places' kept : List Brick)
-    (end : Voxel) → same ≡ walk → with_table pile places ≡ old → kept ≡ places'
-    → IsWayAdded None (morton_of end) same (with_table pile places) (with_table pile' places')
+pub way_tabled : (walk : List Voxel) (old pile pile' places places' kept : List Brick)
+    (end : Voxel) → with_table pile places ≡ old → kept ≡ places'
+    → IsWayAdded None (morton_of end) walk (with_table pile places) (with_table pile' places')
     → IsWayAdded None (morton_of end) walk old (with_table pile' kept)
-way_tabled walk same old pile pile' places places' kept end ew eo ek h =
-    subst (λ (ks : List Voxel). IsWayAdded None (morton_of end) ks old (with_table pile' kept)) ew
-    (subst (λ (bs : List Brick). IsWayAdded None (morton_of end) same bs (with_table pile' kept)) eo
-    (subst (λ (ps : List Brick). IsWayAdded None (morton_of end) same (with_table pile places)
-    (with_table pile' ps)) (sym ek) h))
+way_tabled walk old pile pile' places places' kept end eo ek h =
+    subst (λ (bs : List Brick). IsWayAdded None (morton_of end) walk bs (with_table pile' kept)) eo
+    (subst (λ (ps : List Brick). IsWayAdded None (morton_of end) walk (with_table pile places)
+    (with_table pile' ps)) (sym ek) h)
 
 -- what holds of a walk that is given back
 pub given_back : {A : Type 0} (left : Option A) (back : A) (P : A → Type 0) → left ≡ Some back

@@ -13,7 +13,6 @@ ghost use Rattle.oct_scan.specs.Gathered.{HoldAllGathered, IsBeamHeld, IsHeld, I
 ghost use Rattle.oct_ray.specs.Met.{met_by};
 ghost use Rattle.oct_scan.specs.Entry.{HasComeIn, IsWay, StaysOut};
 ghost use Rattle.oct_scan.specs.Gathered.{is_mute, EndsAt, GoesTo, IsRestAdded, IsWayAdded};
-ghost use Rattle.oct_scan.specs.Marked.{ArePushed};
 ghost use Rattle.oct_scan.specs.Piled.{AreFew};
 
 use crate::beam::PlacedBeam;
@@ -24,7 +23,7 @@ use crate::table::BrickTable;
 use oct_brick::Brick;
 use oct_key::{Key, Window, from_morton, morton, sorted_keys};
 use oct_num::Memory;
-use oct_ray::{BeamWalk, PacedWalk, Walk};
+use oct_ray::{BeamWalk, Walk};
 use std::alloc::Global;
 
 /// How many beams have keys at most, which take four megabytes then. A key is the code of the brick
@@ -283,7 +282,7 @@ fn push_way(bricks: &mut BrickTable, walk: Walk, end: u64) -> Result<(), Memory>
 {
     match walk.near(end) {
         Ok(near) => match bricks.mark_way(near)? {
-            Some(near) => push_pairs(bricks, PacedWalk::new(near), Brick::around(end)),
+            Some(near) => push_steps(bricks, near, Brick::around(end)),
             None => Ok(()),
         },
         Err(walk) => push_steps(bricks, walk, Brick::around(end)),
@@ -307,40 +306,6 @@ fn push_steps<W: BeamWalk>(bricks: &mut BrickTable, walk: W, brick: Brick) -> Re
     }
     push_some(bricks, brick)?;
     Ok(())
-}
-
-/// The same for a walk that gives two voxels at once.
-#[inline(never)]
-fn push_pairs(bricks: &mut BrickTable, walk: PacedWalk, brick: Brick) -> Result<(), Memory>
-    requires bricks { All IsBrick bricks.old }
-    requires current { IsCurrent brick }
-    ensures { OnOk result ((end : Voxel) → IsInMap end → EndsAt end walk
-        → IsRestAdded None (morton_of end) walk brick bricks.old bricks.new) }
-{
-    let mut walk = walk;
-    let mut brick = push_twos(bricks, &mut walk, Brick { hits: 0, ..brick })?;
-    while let Some(code) = walk.next_but_last() {
-        brick = push_code(bricks, brick, code)?;
-        brick = push_twos(bricks, &mut walk, brick)?;
-    }
-    push_some(bricks, brick)?;
-    Ok(())
-}
-
-/// Adds the voxels of a walk as long as it gives them two at once, and answers the current brick.
-#[inline(always)]
-fn push_twos(bricks: &mut BrickTable, walk: &mut PacedWalk, brick: Brick) -> Result<Brick, Memory>
-    requires bricks { All IsBrick bricks.old }
-    requires current { IsCurrent brick }
-    ensures { IfOk result (λ next.
-        ArePushed walk.old walk.new bricks.old brick bricks.new next) }
-{
-    let mut brick = brick;
-    while let Some((first, second)) = walk.next_pair() {
-        brick = push_code(bricks, brick, first)?;
-        brick = push_code(bricks, brick, second)?;
-    }
-    Ok(brick)
 }
 
 /// Adds a voxel to the current brick, where it lies in that, and else adds that one to the bricks,

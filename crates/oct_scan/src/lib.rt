@@ -37,14 +37,16 @@
 //! that pass the same bricks mostly follow one another. One that doesn't lie in the box with both
 //! ends begins where it comes to the box, by a division for each axis, and is walked up to its end
 //! from its first voxel there, or up to where it leaves it. In a dense scan (`are_dense`) voxels
-//! are set in a table of 2^17 bricks, mostly two at once (`mark_steps`), where a brick stands by
-//! the last bits of its code; it goes to the pile where another one takes its place. In any other
-//! scan, and in a box that a beam comes to or leaves, a beam's voxels go into the brick where it
-//! is, which is added to the pile when the beam leaves it. The pile remembers in a table of its own
-//! where bricks stand, and merges them where those that it forgot become many, so that there are
-//! never more than twice as many as codes, and 2^18 (`AreFew`): memory follows the bricks that the
-//! beams touch, however often they do. The bricks are sorted by their codes, and those of one code
-//! joined; each adds to the need the blocks that don't hold the one before it, and its own octets.
+//! are set in a table of 2^17 bricks (`mark_steps`), where a brick stands by the last bits of its
+//! code: by a loop in which no call stands as long as their bricks are there (`mark_known`), and
+//! else in a brick that takes the place of another one, which goes to the pile (`exchange`). In any
+//! other scan, and in a box that a beam comes to or leaves, a beam's voxels go into the brick where
+//! it is, which is added to the pile when the beam leaves it. The pile remembers in a table of its
+//! own where bricks stand, and merges them where those that it forgot become many, so that there
+//! are never more than twice as many as codes, and 2^18 (`AreFew`): memory follows the bricks that
+//! the beams touch, however often they do. The bricks are sorted by their codes, and those of one
+//! code joined; each adds to the need the blocks that don't hold the one before it, and its own
+//! octets.
 //!
 //! Both calls allocate, and touch nothing but their arguments.
 

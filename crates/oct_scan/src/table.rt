@@ -15,7 +15,7 @@ use crate::pile::{BrickPile, put_away};
 use oct_brick::Brick;
 use oct_key::Key;
 use oct_num::Memory;
-use oct_ray::{NearWalk, PacedWalk};
+use oct_ray::NearWalk;
 use std::alloc::Global;
 use std::marker::Model;
 
@@ -103,7 +103,6 @@ impl BrickTable {
         if self.places.len() != PLACES {
             return Ok(Some(walk));
         }
-        let walk = PacedWalk::new(walk);
         mark_steps(&mut self.pile, self.places.as_mut_slice(), walk)?;
         Ok(None)
     }

@@ -22,23 +22,23 @@ pub returns-in-Err : goal.returns-in-Err
 returns-in-Err c =
     let (end, on_map, coded, ends) = c.requires.ends in
     let same = c.in-Err.ensures.far in
-    ok_so c.push_steps.result (λ h. begun_so None (morton_of end) c.args.end c.args.walk
-    c.in-Err.walk c.around-in-Err.result c.args.bricks.now c.push_steps.new.bricks coded
+    ok_so c.push_steps-in-Err.result (λ h. begun_so None (morton_of end) c.args.end c.args.walk
+    c.in-Err.walk c.around-in-Err.result c.args.bricks.now c.push_steps-in-Err.new.bricks coded
     c.around-in-Err.ensures.scanned same (h end on_map (subst (EndsAt end) (sym same) ends)))
-    c.push_steps.ensures
+    c.push_steps-in-Err.ensures
 
 pub returns-in-Some : goal.returns-in-Some
 returns-in-Some c =
     let (end, on_map, coded, ends) = c.requires.ends in
     let back = given_back c.in_ok-near-in-Ok.field-0 c.in-Some.near _ c.in-Some.is
     c.in_ok-near-in-Ok.ensures.same in
-    let same = c.new.ensures ∙ back.0 ∙ c.in-Ok.ensures.near in
-    ok_so c.push_pairs.result (λ h. begun_so None (morton_of end) c.args.end c.args.walk
-    c.new.result c.around.result c.args.bricks.now c.push_pairs.new.bricks coded
+    let same = back.0 ∙ c.in-Ok.ensures.near in
+    ok_so c.push_steps.result (λ h. begun_so None (morton_of end) c.args.end c.args.walk
+    c.in-Some.near c.around.result c.args.bricks.now c.push_steps.new.bricks coded
     c.around.ensures.scanned same (subst (λ (bs : List Brick). IsRestAdded None (morton_of end)
-    c.new.result c.around.result bs c.push_pairs.new.bricks) back.1
+    c.in-Some.near c.around.result bs c.push_steps.new.bricks) back.1
     (h end on_map (subst (EndsAt end) (sym same) ends))))
-    c.push_pairs.ensures
+    c.push_steps.ensures
 
 pub returns-in-None : goal.returns-in-None
 returns-in-None c =

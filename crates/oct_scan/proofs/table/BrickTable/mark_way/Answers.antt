@@ -1,7 +1,7 @@
 use Rattle.std.proofs.Common.{◌≡◌, ◌++◌, ◌∙◌, List, length, take, ap, arith, sym, subst, All}
 use Rattle.std.specs.Prelude.{drop}
 use Rattle.oct_brick.specs.declared.brick.Brick.{Brick}
-use Rattle.oct_scan.specs.Gathered.{EndsAt, IsCurrent}
+use Rattle.oct_scan.specs.Gathered.{IsCurrent}
 use Rattle.oct_scan.specs.Piled.{filled}
 use Rattle.oct_scan.proofs.Marked.{kept_items, way_tabled}
 use Rattle.oct_scan.proofs.table.BrickTable.mark_way.Goals as goal
@@ -25,9 +25,8 @@ invariant_of-self-2 c =
 
 pub returns-clause-added : goal.returns-clause-added
 returns-clause-added c = λ _ end on_map ends.
-    way_tabled c.args.walk c.new-walk.result c.args.self.now c.self.inside.pile
-    c.mark_steps.new.pile c.as_mut_slice.result.now c.mark_steps.new.places _ end c.new-walk.ensures
+    way_tabled c.args.walk c.args.self.now c.self.inside.pile c.mark_steps.new.pile
+    c.as_mut_slice.result.now c.mark_steps.new.places _ end
     (ap (λ (ps : List Brick). c.self.inside.pile ++ filled ps) c.as_mut_slice.ensures.value
     ∙ c.self.view_is) (items (goal.at.returns-clause-added c).After-mark_steps)
-    (c.in_ok-mark_steps.ensures.added end on_map
-    (subst (EndsAt end) (sym c.new-walk.ensures) ends))
+    (c.in_ok-mark_steps.ensures.added end on_map ends)
