@@ -7,11 +7,8 @@ use oct_key::Key;
 /// that meets it: a table of bricks spares what it takes to make it and to go through it.
 const LEAST_MET: u64 = 1 << 20;
 
-/// How many of them there are at least for each brick of the box that the beams span. Fewer of them
-/// seldom find a brick in the table.
-const LEAST_PER_BRICK: u64 = 32;
-
-/// Whether the beams from a voxel meet many voxels, and pass the same bricks again and again.
+/// Whether the beams from a voxel meet many voxels, and at least as many as the box that they span
+/// has bricks: in a larger box a beam seldom finds bricks of earlier ones in the table.
 pub fn are_dense(start: Key, beams: &[PlacedBeam]) -> bool {
     let mut met = 0_u64;
     let (mut low, mut high) = (start, start);
@@ -20,7 +17,7 @@ pub fn are_dense(start: Key, beams: &[PlacedBeam]) -> bool {
         low = lower_corner(low, beam.voxel);
         high = upper_corner(high, beam.voxel);
     }
-    LEAST_MET <= met && bricks_between(low, high) <= met / LEAST_PER_BRICK
+    LEAST_MET <= met && bricks_between(low, high) <= met
 }
 
 /// The lower corner of the box that two voxels span.
