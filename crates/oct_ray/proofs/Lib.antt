@@ -16,7 +16,3 @@ pub mod LaterAxes
 pub mod Rests
 pub mod Alike
 pub mod NearWalks
-pub mod PlacedBits
-pub mod PacedTurns
-pub mod PacedWalks
-pub mod PacedPairs

@@ -2,6 +2,7 @@
 use Rattle.std.proofs.Common.{◌≡◌, ◌≢◌, ℕ, ◌+◌, ◌-◌, ◌*◌, ◌/◌, ◌^◌, ◌<◌, ◌≤◌, Bool, true}
 use Rattle.std.proofs.Common.{false, ◌&&◌, if◌then◌else◌, refl, sym, ◌∙◌, ap, arith, inr, nat_le}
 use Rattle.std.proofs.Common.{[], ◌∷◌, length, bit_and}
+use Rattle.std.proofs.lemmas.Bool.Decides.{nat_tests}
 use Rattle.oct_key.specs.Voxel.{Voxel, IsInMap}
 use Rattle.oct_key.specs.Morton.{gathered, morton_of}
 use Rattle.oct_key.proofs.Interleavings.{gathered_in_map, morton_below, morton_injective}
@@ -9,12 +10,14 @@ use Rattle.oct_key.proofs.Interleavings.{morton_of_gathered}
 use Rattle.oct_ray.specs.Axis.{HasRoom}
 use Rattle.oct_ray.specs.declared.axis.Axis.{Axis}
 use Rattle.oct_ray.specs.declared.near.NearAxis.{NearAxis}
+use Rattle.oct_ray.specs.declared.near.NearAxes.{NearAxes}
 use Rattle.oct_ray.specs.declared.near.NearWalk.TheInside.{Inside}
 use Rattle.oct_ray.specs.declared.track.Track.{Track}
 use Rattle.oct_ray.specs.Given.{HasLast}
 use Rattle.oct_ray.specs.Track.{AreTracks, CanPass, crosses_now, has_ended, keys_left, keys_to_come}
 use Rattle.oct_ray.specs.Track.{track_after}
-use Rattle.oct_ray.specs.Near.{IsAxisTo, IsNear, IsOrder, StaysOnMap, after_pass, axis_of_track}
+use Rattle.oct_ray.specs.Near.{AllStay, AreNow, CanCross, HasCrossed, IsAxisTo, IsNear, IsOrder}
+use Rattle.oct_ray.specs.Near.{IsStep, StaysOnMap, after_pass, axis_of_track}
 use Rattle.oct_ray.specs.Near.{bit, near_keys, track_to, track_x, track_y, track_z}
 use Rattle.oct_ray.proofs.Alike.{AreAlike, IsAlike, alike_crosses, alike_left, alike_voxel}
 use Rattle.oct_ray.proofs.Alike.{next_after, third_after, turned}
@@ -44,9 +47,11 @@ like_track end a t next third h = rw h.same (record {
 near_alike : (n : Inside) (r : IsNear n)
     → AreAlike (track_x n) (track_y n) (track_z n) r.track_a r.track_b r.track_c
 near_alike n r = record {
-  like_x = like_track (gathered 16 n.last) n.x r.track_a (2 ^ 63) (2 ^ 63) r.axis_a;
-  like_y = like_track (gathered 16 (n.last / 2)) n.y r.track_b (2 ^ 63) n.y_after_x r.axis_b;
-  like_z = like_track (gathered 16 (n.last / 4)) n.z r.track_c n.z_after_x n.z_after_y r.axis_c;
+  like_x = like_track (gathered 16 n.last) n.axes.x r.track_a (2 ^ 63) (2 ^ 63) r.axis_a;
+  like_y = like_track (gathered 16 (n.last / 2)) n.axes.y r.track_b (2 ^ 63) n.axes.y_after_x
+      r.axis_b;
+  like_z = like_track (gathered 16 (n.last / 4)) n.axes.z r.track_c n.axes.z_after_x
+      n.axes.z_after_y r.axis_c;
   y_x = omega (arith, r.y_after_x.later);
   z_x = omega (arith, r.z_after_x.later);
   z_y = omega (arith, r.z_after_y.later);
@@ -94,7 +99,7 @@ coded_voxel k code on_map e =
 
 -- where a near walk stands
 abbrev pub near_voxel : Inside → Voxel
-near_voxel n = record { x = n.x.key; y = n.y.key; z = n.z.key }
+near_voxel n = record { x = n.axes.x.key; y = n.axes.y.key; z = n.axes.z.key }
 
 -- at the code of the last voxel no crossing is left
 near_ended : (n : Inside) (r : IsNear n) (code : ℕ) → IsInMap (near_voxel n)
@@ -102,9 +107,9 @@ near_ended : (n : Inside) (r : IsNear n) (code : ℕ) → IsInMap (near_voxel n)
     → has_ended r.track_a r.track_b r.track_c ≡ true
 near_ended n r code on_map coded e =
     let at = coded_voxel (near_voxel n) n.last on_map (sym e ∙ coded) in
-    let x = at_end _ n.x r.track_a r.axis_a (ap (λ (k : Voxel). k.x) at) in
-    let y = at_end _ n.y r.track_b r.axis_b (ap (λ (k : Voxel). k.y) at) in
-    let z = at_end _ n.z r.track_c r.axis_c (ap (λ (k : Voxel). k.z) at) in
+    let x = at_end _ n.axes.x r.track_a r.axis_a (ap (λ (k : Voxel). k.x) at) in
+    let y = at_end _ n.axes.y r.track_b r.axis_b (ap (λ (k : Voxel). k.y) at) in
+    let z = at_end _ n.axes.z r.track_c r.axis_c (ap (λ (k : Voxel). k.z) at) in
     zero_is (r.track_a.crossings + r.track_b.crossings + r.track_c.crossings)
     (omega (arith, x, y, z))
 
@@ -117,9 +122,9 @@ near_goes_on n r code coded other =
       | true ↦ λ e.
           let none =
           zero_from (r.track_a.crossings + r.track_b.crossings + r.track_c.crossings) e in
-          let x = stands_at_end _ n.x r.track_a r.axis_a (omega (arith, none)) in
-          let y = stands_at_end _ n.y r.track_b r.axis_b (omega (arith, none)) in
-          let z = stands_at_end _ n.z r.track_c r.axis_c (omega (arith, none)) in
+          let x = stands_at_end _ n.axes.x r.track_a r.axis_a (omega (arith, none)) in
+          let y = stands_at_end _ n.axes.y r.track_b r.axis_b (omega (arith, none)) in
+          let z = stands_at_end _ n.axes.z r.track_c r.axis_c (omega (arith, none)) in
           absurd (other (coded ∙ morton_of_gathered n.last _ _ _ r.last x y z))
       | false ↦ λ e. refl
     ] refl
@@ -139,17 +144,12 @@ bits_and true false = refl
 bits_and false true = refl
 bits_and false false = refl
 
-pub both : (s t : Bool) (i j : ℕ) → i ≡ bit s → j ≡ bit t → bit_and i j ≡ bit (s && t)
+both : (s t : Bool) (i j : ℕ) → i ≡ bit s → j ≡ bit t → bit_and i j ≡ bit (s && t)
 both s t i j ei ej =
     ap (λ (n : ℕ). bit_and n j) ei ∙ ap (bit_and (bit s)) ej ∙ bits_and s t
 
--- these are 1 where x, y and z cross next
-pub record AreNow (n : Inside) (i j k : ℕ) : Type 0 where
-  pub x : i ≡ bit (crosses_now (track_x n) (track_y n) (track_z n))
-  pub y : j ≡ bit (crosses_now (track_y n) (track_z n) (track_x n))
-  pub z : k ≡ bit (crosses_now (track_z n) (track_x n) (track_y n))
-
-pub are_now : (n : Inside) (a b c d e f : ℕ) → a ≡ bit (nat_le (2 ^ 63) n.y_after_x)
+-- the orders tell which axes cross next
+pub are_now : (n : NearAxes) (a b c d e f : ℕ) → a ≡ bit (nat_le (2 ^ 63) n.y_after_x)
     → b ≡ bit (nat_le (2 ^ 63) n.z_after_x) → c ≡ bit (nat_le (2 ^ 63) n.z_after_y)
     → d ≡ bit (nat_le n.y_after_x (2 ^ 63)) → e ≡ bit (nat_le n.z_after_x (2 ^ 63))
     → f ≡ bit (nat_le n.z_after_y (2 ^ 63)) → AreNow n (bit_and a b) (bit_and c d) (bit_and e f)
@@ -159,8 +159,39 @@ are_now n a b c d e f ea eb ec ed ee ef = record {
   z = both (nat_le n.z_after_x (2 ^ 63)) (nat_le n.z_after_y (2 ^ 63)) e f ee ef;
 }
 
--- the same, of the tracks that the walk is of
-tracks_now : (n : Inside) (r : IsNear n) (i j k : ℕ) → AreNow n i j k
+-- an axis whose crossing comes before those of both others crosses alone
+x_alone : (u v w : ℕ) → 2 ^ 63 < u → 2 ^ 63 < v → (nat_le (2 ^ 63) u && nat_le (2 ^ 63) v ≡ true)
+    × (nat_le (2 ^ 63) w && nat_le u (2 ^ 63) ≡ false)
+    × (nat_le v (2 ^ 63) && nat_le w (2 ^ 63) ≡ false)
+x_alone u v w hu hv = grind (arith, nat_tests)
+
+pub x_now : (n : NearAxes) → 2 ^ 63 < n.y_after_x → 2 ^ 63 < n.z_after_x → AreNow n 1 0 0
+x_now n hu hv =
+    let (x, y, z) = x_alone n.y_after_x n.z_after_x n.z_after_y hu hv in
+    record { x = ap bit (sym x); y = ap bit (sym y); z = ap bit (sym z) }
+
+y_alone : (u v w : ℕ) → u < 2 ^ 63 → 2 ^ 63 < w → (nat_le (2 ^ 63) u && nat_le (2 ^ 63) v ≡ false)
+    × (nat_le (2 ^ 63) w && nat_le u (2 ^ 63) ≡ true)
+    × (nat_le v (2 ^ 63) && nat_le w (2 ^ 63) ≡ false)
+y_alone u v w hu hw = grind (arith, nat_tests)
+
+pub y_now : (n : NearAxes) → n.y_after_x < 2 ^ 63 → 2 ^ 63 < n.z_after_y → AreNow n 0 1 0
+y_now n hu hw =
+    let (x, y, z) = y_alone n.y_after_x n.z_after_x n.z_after_y hu hw in
+    record { x = ap bit (sym x); y = ap bit (sym y); z = ap bit (sym z) }
+
+z_alone : (u v w : ℕ) → v < 2 ^ 63 → w < 2 ^ 63 → (nat_le (2 ^ 63) u && nat_le (2 ^ 63) v ≡ false)
+    × (nat_le (2 ^ 63) w && nat_le u (2 ^ 63) ≡ false)
+    × (nat_le v (2 ^ 63) && nat_le w (2 ^ 63) ≡ true)
+z_alone u v w hv hw = grind (arith, nat_tests)
+
+pub z_now : (n : NearAxes) → n.z_after_x < 2 ^ 63 → n.z_after_y < 2 ^ 63 → AreNow n 0 0 1
+z_now n hv hw =
+    let (x, y, z) = z_alone n.y_after_x n.z_after_x n.z_after_y hv hw in
+    record { x = ap bit (sym x); y = ap bit (sym y); z = ap bit (sym z) }
+
+-- the same, of the tracks that a walk is of
+tracks_now : (n : Inside) (r : IsNear n) (i j k : ℕ) → AreNow n.axes i j k
     → (i ≡ bit (crosses_now r.track_a r.track_b r.track_c))
     × (j ≡ bit (crosses_now r.track_b r.track_c r.track_a))
     × (k ≡ bit (crosses_now r.track_c r.track_a r.track_b))
@@ -189,41 +220,39 @@ stays_on_map t end now a s p q h c e =
       down = λ down. omega (arith, key, e, few, c.falling (sym rises ∙ down));
     }
 
--- all three stay on the map
-pub record AllStay (n : Inside) (i j k : ℕ) : Type 0 where
-  pub x : StaysOnMap i n.x
-  pub y : StaysOnMap j n.y
-  pub z : StaysOnMap k n.z
+small_pace : (end : ℕ) (a : NearAxis) (t : Track) → IsAxisTo end a t → a.pace < 2 ^ 63
+small_pace end a t h =
+    let pace = ap (λ (b : NearAxis). b.pace) h.same in omega (arith, pace, h.small)
 
-pub all_stay : (n : Inside) → IsNear n → (code i j k : ℕ) → code ≡ morton_of (near_voxel n)
-    → code ≢ n.last → AreNow n i j k → AllStay n i j k
+-- so all three stay on the map
+all_stay : (n : Inside) → IsNear n → (code i j k : ℕ) → code ≡ morton_of (near_voxel n)
+    → code ≢ n.last → AreNow n.axes i j k → AllStay n.axes i j k
 all_stay n r code i j k coded other now =
     let w = make_walk r.track_a r.track_b r.track_c true in
     let e = near_goes_on n r code coded other in
     let (x, y, z) = tracks_now n r i j k now in
     record {
-      x = stays_on_map _ _ i n.x r.track_a _ _ r.axis_a (can_pass_x w r.tracks e) x;
-      y = stays_on_map _ _ j n.y r.track_b _ _ r.axis_b (can_pass_y w r.tracks e) y;
-      z = stays_on_map _ _ k n.z r.track_c _ _ r.axis_c (can_pass_z w r.tracks e) z;
+      x = stays_on_map _ _ i n.axes.x r.track_a _ _ r.axis_a (can_pass_x w r.tracks e) x;
+      y = stays_on_map _ _ j n.axes.y r.track_b _ _ r.axis_b (can_pass_y w r.tracks e) y;
+      z = stays_on_map _ _ k n.axes.z r.track_c _ _ r.axis_c (can_pass_z w r.tracks e) z;
     }
 
--- a near walk after a step in which these say which axes cross
-pub record IsStep (n m : Inside) (i j k : ℕ) : Type 0 where
-  pub x : m.x ≡ after_pass i n.x
-  pub y : m.y ≡ after_pass j n.y
-  pub z : m.z ≡ after_pass k n.z
-  pub some_y_x : 0 < m.y_after_x
-  pub some_z_x : 0 < m.z_after_x
-  pub some_z_y : 0 < m.z_after_y
-  pub below_y_x : m.y_after_x < 2 ^ 64
-  pub below_z_x : m.z_after_x < 2 ^ 64
-  pub below_z_y : m.z_after_y < 2 ^ 64
-  pub y_after_x : m.y_after_x + i * n.y.pace ≡ n.y_after_x + j * n.x.pace
-  pub z_after_x : m.z_after_x + i * n.z.pace ≡ n.z_after_x + k * n.x.pace
-  pub z_after_y : m.z_after_y + j * n.z.pace ≡ n.z_after_y + k * n.y.pace
-  pub last : m.last ≡ n.last
+-- so its axes can cross
+pub can_cross : (n : Inside) → IsNear n → (code : ℕ) → code ≡ morton_of (near_voxel n)
+    → code ≢ n.last → CanCross n.axes
+can_cross n r code coded other = record {
+  stay = λ i j k now. all_stay n r code i j k coded other now;
+  room = record {
+    x_pace = small_pace _ n.axes.x r.track_a r.axis_a;
+    y_pace = small_pace _ n.axes.y r.track_b r.axis_b;
+    z_pace = small_pace _ n.axes.z r.track_c r.axis_c;
+    y_after_x = r.y_after_x.some;
+    z_after_x = r.z_after_x.some;
+    z_after_y = r.z_after_y.some;
+  };
+}
 
-pub stays : (rises : Bool) (n : ℕ) → (if rises then n + 0 else n - 0) ≡ n
+stays : (rises : Bool) (n : ℕ) → (if rises then n + 0 else n - 0) ≡ n
 stays true n = omega arith
 stays false n = omega arith
 
@@ -277,8 +306,9 @@ order_steps order order' first second first' second' i j p q p' q' h some below 
 
 -- a near walk after a step is that of the tracks after theirs
 near_steps : (n m : Inside) → IsNear n → (code i j k : ℕ) → code ≡ morton_of (near_voxel n)
-    → code ≢ n.last → AreNow n i j k → IsStep n m i j k → IsNear m
-near_steps n m r code i j k coded other now s =
+    → code ≢ n.last → AreNow n.axes i j k → IsStep n.axes m.axes i j k → m.last ≡ n.last
+    → IsNear m
+near_steps n m r code i j k coded other now s l =
     let a = r.track_a in
     let b = r.track_b in
     let c = r.track_c in
@@ -297,42 +327,45 @@ near_steps n m r code i j k coded other now s =
       track_b = track_after (crosses_now b c a) b c.pace a.pace;
       track_c = track_after (crosses_now c a b) c a.pace b.pace;
       tracks = AreTracks-steps w _ _ _ r.tracks e refl refl refl;
-      axis_a = rw s.last
-          (axis_steps (crosses_now a b c) (gathered 16 n.last) i n.x m.x a b.pace c.pace
+      axis_a = rw l
+          (axis_steps (crosses_now a b c) (gathered 16 n.last) i n.axes.x m.axes.x a b.pace c.pace
           r.axis_a (can_pass_x w r.tracks e) ei s.x);
-      axis_b = rw s.last
-          (axis_steps (crosses_now b c a) (gathered 16 (n.last / 2)) j n.y m.y b c.pace
+      axis_b = rw l
+          (axis_steps (crosses_now b c a) (gathered 16 (n.last / 2)) j n.axes.y m.axes.y b c.pace
           a.pace r.axis_b (can_pass_y w r.tracks e) ej s.y);
-      axis_c = rw s.last
-          (axis_steps (crosses_now c a b) (gathered 16 (n.last / 4)) k n.z m.z c a.pace
+      axis_c = rw l
+          (axis_steps (crosses_now c a b) (gathered 16 (n.last / 4)) k n.axes.z m.axes.z c a.pace
           b.pace r.axis_c (can_pass_z w r.tracks e) ek s.z);
-      y_after_x = order_steps n.y_after_x m.y_after_x a.beside_next b.beside_third _ _ i j n.x.pace
-          n.y.pace a.pace b.pace r.y_after_x s.some_y_x s.below_y_x s.y_after_x pace_y pace_x
+      y_after_x = order_steps n.axes.y_after_x m.axes.y_after_x a.beside_next b.beside_third
+          _ _ i j n.axes.x.pace
+          n.axes.y.pace a.pace b.pace r.y_after_x s.some_y_x s.below_y_x s.y_after_x pace_y pace_x
           (next_after (crosses_now a b c) a b.pace c.pace
           ∙ ap (λ (v : ℕ). a.beside_next + v) (by (crosses_now a b c) i b.pace ei))
           (third_after (crosses_now b c a) b c.pace a.pace
           ∙ ap (λ (v : ℕ). b.beside_third + v) (by (crosses_now b c a) j a.pace ej));
-      z_after_x = order_steps n.z_after_x m.z_after_x a.beside_third c.beside_next _ _ i k n.x.pace
-          n.z.pace a.pace c.pace r.z_after_x s.some_z_x s.below_z_x s.z_after_x pace_z pace_x
+      z_after_x = order_steps n.axes.z_after_x m.axes.z_after_x a.beside_third c.beside_next
+          _ _ i k n.axes.x.pace
+          n.axes.z.pace a.pace c.pace r.z_after_x s.some_z_x s.below_z_x s.z_after_x pace_z pace_x
           (third_after (crosses_now a b c) a b.pace c.pace
           ∙ ap (λ (v : ℕ). a.beside_third + v) (by (crosses_now a b c) i c.pace ei))
           (next_after (crosses_now c a b) c a.pace b.pace
           ∙ ap (λ (v : ℕ). c.beside_next + v) (by (crosses_now c a b) k a.pace ek));
-      z_after_y = order_steps n.z_after_y m.z_after_y b.beside_next c.beside_third _ _ j k n.y.pace
-          n.z.pace b.pace c.pace r.z_after_y s.some_z_y s.below_z_y s.z_after_y pace_z pace_y
+      z_after_y = order_steps n.axes.z_after_y m.axes.z_after_y b.beside_next c.beside_third
+          _ _ j k n.axes.y.pace
+          n.axes.z.pace b.pace c.pace r.z_after_y s.some_z_y s.below_z_y s.z_after_y pace_z pace_y
           (next_after (crosses_now b c a) b c.pace a.pace
           ∙ ap (λ (v : ℕ). b.beside_next + v) (by (crosses_now b c a) j c.pace ej))
           (third_after (crosses_now c a b) c a.pace b.pace
           ∙ ap (λ (v : ℕ). c.beside_third + v) (by (crosses_now c a b) k b.pace ek));
-      last = rw s.last r.last;
+      last = rw l r.last;
     }
 
 -- a step gives the voxel where the walk stood
 near_gives : (n m : Inside) → IsNear n → (code i j k : ℕ) → code ≡ morton_of (near_voxel n)
-    → code ≢ n.last → AreNow n i j k → IsStep n m i j k
-    → near_keys n ≡ near_voxel n ∷ near_keys m
+    → code ≢ n.last → AreNow n.axes i j k → IsStep n.axes m.axes i j k
+    → m.last ≡ n.last → near_keys n ≡ near_voxel n ∷ near_keys m
 unfolding near_steps
-near_gives n m r code i j k coded other now s =
+near_gives n m r code i j k coded other now s l =
     let a = r.track_a in
     let b = r.track_b in
     let c = r.track_c in
@@ -344,18 +377,18 @@ near_gives n m r code i j k coded other now s =
     near_left n r ∙ walk_steps w v r.tracks refl e refl refl refl refl
     ∙ ap (λ l. l ∷ keys_to_come v) (sym (alike_voxel _ _ _ a b c (near_alike n r)))
     ∙ ap (λ ks. near_voxel n ∷ ks)
-    (sym (near_left m (near_steps n m r code i j k coded other now s)))
+    (sym (near_left m (near_steps n m r code i j k coded other now s l)))
 
 -- after a step: what is left is a near walk, and the voxel where the walk stood was given
 pub record HasStepped (n m : Inside) : Type 0 where
   pub near : IsNear m
   pub gives : near_keys n ≡ near_voxel n ∷ near_keys m
 
-pub stepped : (n m : Inside) → IsNear n → (code i j k : ℕ) → code ≡ morton_of (near_voxel n)
-    → code ≢ n.last → AreNow n i j k → IsStep n m i j k → HasStepped n m
-stepped n m r code i j k coded other now s = record {
-  near = near_steps n m r code i j k coded other now s;
-  gives = near_gives n m r code i j k coded other now s;
+pub stepped : (n m : Inside) → IsNear n → (code : ℕ) → code ≡ morton_of (near_voxel n)
+    → code ≢ n.last → HasCrossed n.axes m.axes → m.last ≡ n.last → HasStepped n m
+stepped n m r code coded other h l = record {
+  near = near_steps n m r code _ _ _ coded other h.now h.step l;
+  gives = near_gives n m r code _ _ _ coded other h.now h.step l;
 }
 
 -- no near walk is without a voxel
@@ -365,7 +398,7 @@ near_some n r none =
     walk_goes_on w w refl refl (sym (near_left n r) ∙ none)
 
 -- the axes of tracks, with the orders of their places, to the last voxel of these
-pub record IsMadeOf (n : Inside) (x y z : Track) : Type 0 where
+pub record IsMadeOf (n : NearAxes) (x y z : Track) : Type 0 where
   pub x_is : n.x ≡ axis_of_track x
   pub y_is : n.y ≡ axis_of_track y
   pub z_is : n.z ≡ axis_of_track z
@@ -391,7 +424,7 @@ axis_to end last a t b same small er ek ec room el ee = record {
 }
 
 -- such a walk is a near one
-pub near_new : (n : Inside) (x y z : Track) → AreTracks x y z → IsMadeOf n x y z
+pub near_new : (n : Inside) (x y z : Track) → AreTracks x y z → IsMadeOf n.axes x y z
     → HasLast (keys_left x y z) n.last → IsNear n
 near_new n x y z r m l =
     let end = last_of_tracks x y z r l.voxel l.last in
@@ -401,11 +434,11 @@ near_new n x y z r m l =
       track_b = y;
       track_c = z;
       tracks = r;
-      axis_a = axis_to _ l.voxel.x n.x x r.a m.x_is m.small_x r.track_a.rises r.track_a.key
+      axis_a = axis_to _ l.voxel.x n.axes.x x r.a m.x_is m.small_x r.track_a.rises r.track_a.key
           r.track_a.crossings r.is_a (ap (λ (k : Voxel). k.x) end) (ap (λ (k : Voxel). k.x) at);
-      axis_b = axis_to _ l.voxel.y n.y y r.b m.y_is m.small_y r.track_b.rises r.track_b.key
+      axis_b = axis_to _ l.voxel.y n.axes.y y r.b m.y_is m.small_y r.track_b.rises r.track_b.key
           r.track_b.crossings r.is_b (ap (λ (k : Voxel). k.y) end) (ap (λ (k : Voxel). k.y) at);
-      axis_c = axis_to _ l.voxel.z n.z z r.c m.z_is m.small_z r.track_c.rises r.track_c.key
+      axis_c = axis_to _ l.voxel.z n.axes.z z r.c m.z_is m.small_z r.track_c.rises r.track_c.key
           r.track_c.crossings r.is_c (ap (λ (k : Voxel). k.z) end) (ap (λ (k : Voxel). k.z) at);
       y_after_x = m.y_after_x;
       z_after_x = m.z_after_x;
@@ -414,7 +447,7 @@ near_new n x y z r m l =
     }
 
 -- and has the voxels of these tracks to give
-pub near_made : (n : Inside) (x y z : Track) → AreTracks x y z → IsMadeOf n x y z
+pub near_made : (n : Inside) (x y z : Track) → AreTracks x y z → IsMadeOf n.axes x y z
     → HasLast (keys_left x y z) n.last → near_keys n ≡ keys_left x y z
 unfolding near_new
 near_made n x y z r m l = near_left n (near_new n x y z r m l)

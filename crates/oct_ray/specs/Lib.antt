@@ -5,5 +5,3 @@ pub mod Near
 pub mod Range
 pub mod Met
 pub mod Given
-pub mod Placed
-pub mod Paced

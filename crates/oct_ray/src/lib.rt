@@ -29,10 +29,8 @@
 //! - [`Walk::between`] is the same for whoever knows the voxels of both ends, and divides nothing.
 //! - [`Walk::after`] begins just after a part of the beam: what is left of the list there, for
 //!   whoever has no use for the voxels before.
-//! - [`Walk::near`] makes the same list a [`NearWalk`], in numbers of 64 bits, where they fit, and
-//!   [`PacedWalk::new`] that one a [`PacedWalk`]. All are a [`BeamWalk`], which gives the codes of
-//!   its voxels up to the last one; a paced walk mostly gives two at once
-//!   ([`PacedWalk::next_pair`]), or the same one twice.
+//! - [`Walk::near`] makes the same list a [`NearWalk`], in numbers of 64 bits, where they fit. Both
+//!   are a [`BeamWalk`], which gives the codes of its voxels up to the last one.
 //! - `met_by` computes the same list from the two points, and [`segments_are_walked`] says that it
 //!   is that list, so that whoever counts or asks for met voxels can name them.
 //! - [`cut`] moves the end of a beam toward the origin, to `o + (e - o) * r / length`, rounded
@@ -46,12 +44,11 @@
 //! multiplied for the comparisons with both other axes, so that a step is a few additions and
 //! comparisons, and no product or division. All numbers are whole and fit 128 bits, so no rounding
 //! error skips a voxel. A near walk keeps of each two axes how much later the one crosses than the
-//! other, and no place. A paced walk does so of its axes in the order of their paces: up to the
-//! next crossing of the first, the second crosses at most once, and the third mostly doesn't.
+//! other, and no place.
 //!
 //! No call allocates or fails. Scans (`oct_scan`) and casts (`oct_cast`) stand on this crate, and
-//! cite `Meets` and `met_by`; casts cite `Precedes` too, and scans `IsWalkAlong`, `HasGivenPair`,
-//! `IsCutEnd`, `cut_coordinate` and `square_distance`.
+//! cite `Meets` and `met_by`; casts cite `Precedes` too, and scans `IsWalkAlong`, `IsCutEnd`,
+//! `cut_coordinate` and `square_distance`.
 
 #![tactic(auto)]
 
@@ -59,8 +56,6 @@ mod axis;
 mod beam_walk;
 mod laws;
 mod near;
-mod paced;
-mod placed;
 mod range;
 mod track;
 mod walk;
@@ -68,6 +63,5 @@ mod walk;
 pub use beam_walk::BeamWalk;
 pub use laws::segments_are_walked;
 pub use near::NearWalk;
-pub use paced::PacedWalk;
 pub use range::{cut, square_distance};
 pub use walk::Walk;

@@ -2,7 +2,8 @@
 ghost use Rattle.std.specs.Prelude.{◌≡◌, ◌+◌, ◌*◌, ◌^◌, ◌<◌, ◌≤◌, nat_le};
 ghost use Rattle.oct_ray.specs.Given.{HasLast};
 ghost use Rattle.oct_ray.specs.Track.{AreTracks, keys_left};
-ghost use Rattle.oct_ray.specs.Near.{AreClose, AreSmall, IsOrder, StaysOnMap};
+ghost use Rattle.oct_ray.specs.Near.{AreClose, AreNow, AreSmall, CanCross, HasCrossed, IsOrder};
+ghost use Rattle.oct_ray.specs.Near.{AllStay, HaveRoom, IsStep, StaysOnMap};
 ghost use Rattle.oct_ray.specs.Near.{after_pass, axis_of_track, bit};
 
 use crate::beam_walk::BeamWalk;
@@ -11,17 +12,17 @@ use oct_key::{Dilated, morton_of_axes};
 use std::marker::Model;
 
 /// The order of two crossings at one place.
-pub(crate) const TOGETHER: u64 = 1 << 63;
+const TOGETHER: u64 = 1 << 63;
 
 /// One axis of a walk in 64 bits.
 #[derive(Debug, Drop)]
-pub(crate) struct NearAxis {
+struct NearAxis {
     /// The number of the voxels where the walk stands, with its bits where a code has them.
-    pub(crate) key: Dilated,
+    key: Dilated,
     /// Whether the axis rises.
-    pub(crate) rises: bool,
+    rises: bool,
     /// What a crossing of another axis adds to its place beside this one.
-    pub(crate) pace: u64,
+    pace: u64,
 }
 
 impl NearAxis {
@@ -62,7 +63,7 @@ fn order(first: u128, second: u128) -> u64
 
 /// 1 where the second crossing comes no earlier.
 #[inline(always)]
-pub(crate) fn not_before(order: u64) -> u64
+fn not_before(order: u64) -> u64
     ensures { result ≡ bit (nat_le (2 ^ 63) order) }
 {
     order >> 63
@@ -70,7 +71,7 @@ pub(crate) fn not_before(order: u64) -> u64
 
 /// 1 where the second crossing comes no later.
 #[inline(always)]
-pub(crate) fn not_after(order: u64) -> u64
+fn not_after(order: u64) -> u64
     requires { 0 < order }
     ensures { result ≡ bit (nat_le order (2 ^ 63)) }
 {
@@ -79,13 +80,7 @@ pub(crate) fn not_after(order: u64) -> u64
 
 /// The order after a step, in which each of the two crossings is taken where its number is 1.
 #[inline(always)]
-pub(crate) fn order_after(
-    order: u64,
-    first: u64,
-    second: u64,
-    first_pace: u64,
-    second_pace: u64,
-) -> u64
+fn order_after(order: u64, first: u64, second: u64, first_pace: u64, second_pace: u64) -> u64
     requires order { 0 < order }
     requires first { first ≤ 1 }
     requires second { second ≤ 1 }
@@ -99,21 +94,68 @@ pub(crate) fn order_after(
     order + second * first_pace - first * second_pace
 }
 
+/// Three axes of a walk, and how much later one crosses than another.
+#[derive(Debug, Drop)]
+struct NearAxes {
+    x: NearAxis,
+    y: NearAxis,
+    z: NearAxis,
+    /// How much later y crosses than x, above [`TOGETHER`].
+    y_after_x: u64,
+    /// How much later z crosses than x.
+    z_after_x: u64,
+    /// How much later z crosses than y.
+    z_after_y: u64,
+}
+
+impl NearAxes {
+    /// Takes the next crossings, which are those of the axes whose number is 1.
+    #[inline(always)]
+    fn cross(&mut self, x_now: u64, y_now: u64, z_now: u64)
+        requires now { AreNow self.old x_now y_now z_now }
+        requires stay { AllStay self.old x_now y_now z_now }
+        requires room { HaveRoom self.old }
+        ensures { IsStep self.old self.new x_now y_now z_now }
+    {
+        let (x_pace, y_pace, z_pace) = (self.x.pace, self.y.pace, self.z.pace);
+        self.y_after_x = order_after(self.y_after_x, x_now, y_now, x_pace, y_pace);
+        self.z_after_x = order_after(self.z_after_x, x_now, z_now, x_pace, z_pace);
+        self.z_after_y = order_after(self.z_after_y, y_now, z_now, y_pace, z_pace);
+        self.x.pass(x_now);
+        self.y.pass(y_now);
+        self.z.pass(z_now);
+    }
+
+    // Each axis has a branch of its own: nearly always one crosses alone, and then the numbers of
+    // `cross` are known, and most of it comes to nothing.
+    /// Takes the next crossings, one or those that come together.
+    #[inline(always)]
+    fn cross_next(&mut self)
+        requires { CanCross self.old }
+        ensures { HasCrossed self.old self.new }
+    {
+        if self.y_after_x > TOGETHER && self.z_after_x > TOGETHER {
+            self.cross(1, 0, 0);
+        } else if self.y_after_x < TOGETHER && self.z_after_y > TOGETHER {
+            self.cross(0, 1, 0);
+        } else if self.z_after_x < TOGETHER && self.z_after_y < TOGETHER {
+            self.cross(0, 0, 1);
+        } else {
+            let x_now = not_before(self.y_after_x) & not_before(self.z_after_x);
+            let y_now = not_before(self.z_after_y) & not_after(self.y_after_x);
+            let z_now = not_after(self.z_after_x) & not_after(self.z_after_y);
+            self.cross(x_now, y_now, z_now);
+        }
+    }
+}
+
 /// A [`Walk`](crate::Walk) in numbers of 64 bits. It keeps how much later one axis crosses than
 /// another, and not where. Contracts see it as the list of the voxels still to come.
 #[derive(Debug, Drop)]
 pub struct NearWalk {
-    pub(crate) x: NearAxis,
-    pub(crate) y: NearAxis,
-    pub(crate) z: NearAxis,
-    /// How much later y crosses than x, above [`TOGETHER`].
-    pub(crate) y_after_x: u64,
-    /// How much later z crosses than x.
-    pub(crate) z_after_x: u64,
-    /// How much later z crosses than y.
-    pub(crate) z_after_y: u64,
+    axes: NearAxes,
     /// The code of the last voxel.
-    pub(crate) last: u64,
+    last: u64,
 }
 
 impl Model for NearWalk {
@@ -141,38 +183,28 @@ impl NearWalk {
         let y_after_x = order(x.beside_next, y.beside_third);
         let z_after_x = order(x.beside_third, z.beside_next);
         let z_after_y = order(y.beside_next, z.beside_third);
-        NearWalk {
+        let axes = NearAxes {
             x: NearAxis::new(x),
             y: NearAxis::new(y),
             z: NearAxis::new(z),
             y_after_x,
             z_after_x,
             z_after_y,
-            last,
-        }
+        };
+        NearWalk { axes, last }
     }
 }
 
 impl BeamWalk for NearWalk {
     ghost to_come = { λ walk. walk };
 
-    // Which axes cross is reckoned in numbers: a branch on that is guessed wrong too often.
     #[inline(always)]
     fn next_but_last(&mut self) -> Option<u64> {
-        let code = morton_of_axes(&self.x.key, &self.y.key, &self.z.key);
+        let code = morton_of_axes(&self.axes.x.key, &self.axes.y.key, &self.axes.z.key);
         if code == self.last {
             return None;
         }
-        let x_now = not_before(self.y_after_x) & not_before(self.z_after_x);
-        let y_now = not_before(self.z_after_y) & not_after(self.y_after_x);
-        let z_now = not_after(self.z_after_x) & not_after(self.z_after_y);
-        let (x_pace, y_pace, z_pace) = (self.x.pace, self.y.pace, self.z.pace);
-        self.y_after_x = order_after(self.y_after_x, x_now, y_now, x_pace, y_pace);
-        self.z_after_x = order_after(self.z_after_x, x_now, z_now, x_pace, z_pace);
-        self.z_after_y = order_after(self.z_after_y, y_now, z_now, y_pace, z_pace);
-        self.x.pass(x_now);
-        self.y.pass(y_now);
-        self.z.pass(z_now);
+        self.axes.cross_next();
         Some(code)
     }
 }
