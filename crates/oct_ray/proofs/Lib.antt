@@ -15,4 +15,5 @@ pub mod OneAxis
 pub mod LaterAxes
 pub mod Rests
 pub mod Alike
+pub mod PlacedBits
 pub mod NearWalks

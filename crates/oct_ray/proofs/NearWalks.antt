@@ -1,9 +1,10 @@
 -- A walk in 64 bits gives what the walk gives that it is made of.
 use Rattle.std.proofs.Common.{◌≡◌, ◌≢◌, ℕ, ◌+◌, ◌-◌, ◌*◌, ◌/◌, ◌^◌, ◌<◌, ◌≤◌, Bool, true}
 use Rattle.std.proofs.Common.{false, ◌&&◌, if◌then◌else◌, refl, sym, ◌∙◌, ap, arith, inr, nat_le}
-use Rattle.std.proofs.Common.{[], ◌∷◌, length, bit_and}
+use Rattle.std.proofs.Common.{[], ◌∷◌, length, bit_and, subst}
 use Rattle.std.proofs.lemmas.Bool.Decides.{nat_tests}
 use Rattle.oct_key.specs.Voxel.{Voxel, IsInMap}
+use Rattle.oct_key.specs.Dilated.{dilated}
 use Rattle.oct_key.specs.Morton.{gathered, morton_of}
 use Rattle.oct_key.proofs.Interleavings.{gathered_in_map, morton_below, morton_injective}
 use Rattle.oct_key.proofs.Interleavings.{morton_of_gathered}
@@ -19,10 +20,12 @@ use Rattle.oct_ray.specs.Track.{track_after}
 use Rattle.oct_ray.specs.Near.{AllStay, AreNow, CanCross, HasCrossed, IsAxisTo, IsNear, IsOrder}
 use Rattle.oct_ray.specs.Near.{IsStep, StaysOnMap, after_pass, axis_of_track}
 use Rattle.oct_ray.specs.Near.{bit, near_keys, track_to, track_x, track_y, track_z}
+use Rattle.oct_ray.specs.Placed.{part_of_code}
 use Rattle.oct_ray.proofs.Alike.{AreAlike, IsAlike, alike_crosses, alike_left, alike_voxel}
 use Rattle.oct_ray.proofs.Alike.{next_after, third_after, turned}
 use Rattle.oct_ray.proofs.Ends.{last_of_tracks}
 use Rattle.oct_ray.proofs.KeyLists.{zero_from, zero_is}
+use Rattle.oct_ray.proofs.PlacedBits.{parts_of}
 use Rattle.oct_ray.proofs.Tracks.{AreTracks-steps, can_pass_x, can_pass_y, can_pass_z, make_walk}
 use Rattle.oct_ray.proofs.Tracks.{walk_goes_on, walk_left, walk_steps}
 use Rattle.oct_ray.proofs.Visits.{key_after}
@@ -34,9 +37,9 @@ crossings_are : (rises : Bool) (key crossings end : ℕ) → (rises ≡ true →
 crossings_are true key crossings end up down = omega (arith, up refl)
 crossings_are false key crossings end up down = omega (arith, down refl)
 
-like_track : (end : ℕ) (a : NearAxis) (t : Track) (next third : ℕ) → IsAxisTo end a t
+like_track : (unit end : ℕ) (a : NearAxis) (t : Track) (next third : ℕ) → IsAxisTo unit end a t
     → IsAlike (track_to end a next third) t
-like_track end a t next third h = rw h.same (record {
+like_track unit end a t next third h = rw h.same (record {
   key = refl;
   rises = refl;
   crossings = crossings_are t.rises t.key t.crossings end h.rising h.falling;
@@ -47,10 +50,10 @@ like_track end a t next third h = rw h.same (record {
 near_alike : (n : Inside) (r : IsNear n)
     → AreAlike (track_x n) (track_y n) (track_z n) r.track_a r.track_b r.track_c
 near_alike n r = record {
-  like_x = like_track (gathered 16 n.last) n.axes.x r.track_a (2 ^ 63) (2 ^ 63) r.axis_a;
-  like_y = like_track (gathered 16 (n.last / 2)) n.axes.y r.track_b (2 ^ 63) n.axes.y_after_x
+  like_x = like_track 1 (gathered 16 n.last) n.axes.x r.track_a (2 ^ 63) (2 ^ 63) r.axis_a;
+  like_y = like_track 2 (gathered 16 (n.last / 2)) n.axes.y r.track_b (2 ^ 63) n.axes.y_after_x
       r.axis_b;
-  like_z = like_track (gathered 16 (n.last / 4)) n.axes.z r.track_c n.axes.z_after_x
+  like_z = like_track 4 (gathered 16 (n.last / 4)) n.axes.z r.track_c n.axes.z_after_x
       n.axes.z_after_y r.axis_c;
   y_x = omega (arith, r.y_after_x.later);
   z_x = omega (arith, r.z_after_x.later);
@@ -63,20 +66,21 @@ near_left n r =
     alike_left (track_x n) (track_y n) (track_z n) r.track_a r.track_b r.track_c (near_alike n r)
 
 -- an axis that stands at the number of its end has no crossing left
-at_end : (end : ℕ) (a : NearAxis) (t : Track) → IsAxisTo end a t → a.key ≡ end → t.crossings ≡ 0
-at_end end a t h e =
-    let key = ap (λ (b : NearAxis). b.key) h.same in
+at_end : (unit end : ℕ) (a : NearAxis) (t : Track) → IsAxisTo unit end a t → a.key.number ≡ end
+    → t.crossings ≡ 0
+at_end unit end a t h e =
+    let key = ap (λ (b : NearAxis). b.key.number) h.same in
     elim t.rises as (λ b. t.rises ≡ b → t.crossings ≡ 0) [
       | true ↦ λ up. omega (arith, h.rising up, key, e)
       | false ↦ λ down. omega (arith, h.falling down, key, e)
     ] refl
 
 -- and one without a crossing left stands there
-stands_at_end : (end : ℕ) (a : NearAxis) (t : Track) → IsAxisTo end a t → t.crossings ≡ 0
-    → a.key ≡ end
-stands_at_end end a t h e =
-    let key = ap (λ (b : NearAxis). b.key) h.same in
-    elim t.rises as (λ b. t.rises ≡ b → a.key ≡ end) [
+stands_at_end : (unit end : ℕ) (a : NearAxis) (t : Track) → IsAxisTo unit end a t → t.crossings ≡ 0
+    → a.key.number ≡ end
+stands_at_end unit end a t h e =
+    let key = ap (λ (b : NearAxis). b.key.number) h.same in
+    elim t.rises as (λ b. t.rises ≡ b → a.key.number ≡ end) [
       | true ↦ λ up. omega (arith, h.rising up, key, e)
       | false ↦ λ down. omega (arith, h.falling down, key, e)
     ] refl
@@ -99,7 +103,34 @@ coded_voxel k code on_map e =
 
 -- where a near walk stands
 abbrev pub near_voxel : Inside → Voxel
-near_voxel n = record { x = n.axes.x.key; y = n.axes.y.key; z = n.axes.z.key }
+near_voxel n = record {
+  x = n.axes.x.key.number;
+  y = n.axes.y.key.number;
+  z = n.axes.z.key.number;
+}
+
+-- the part of a code that an axis makes
+unit_of : (unit end : ℕ) (a : NearAxis) (t : Track) → IsAxisTo unit end a t
+    → part_of_code a.key ≡ unit * dilated a.key.number
+unit_of unit end a t h =
+    ap (λ (u : ℕ). u * dilated a.key.number) (ap (λ (b : NearAxis). b.key.unit) h.same)
+
+-- the three numbers of a near walk make the code of the voxel where it stands
+pub near_code : (n : Inside) → IsNear n → (code : ℕ)
+    → code ≡ part_of_code n.axes.x.key + part_of_code n.axes.y.key + part_of_code n.axes.z.key
+    → code ≡ morton_of (near_voxel n)
+near_code n r code e =
+    let x = unit_of _ _ n.axes.x r.track_a r.axis_a in
+    let y = unit_of _ _ n.axes.y r.track_b r.axis_b in
+    let z = unit_of _ _ n.axes.z r.track_c r.axis_c in
+    omega (arith, e, x, y, z)
+    ∙ parts_of n.axes.x.key.number n.axes.y.key.number n.axes.z.key.number
+
+pub near_below : (n : Inside) → IsNear n → (code : ℕ)
+    → code ≡ part_of_code n.axes.x.key + part_of_code n.axes.y.key + part_of_code n.axes.z.key
+    → code < 2 ^ 48
+near_below n r code e =
+    subst (λ (m : ℕ). m < 2 ^ 48) (sym (near_code n r code e)) (morton_below (near_voxel n))
 
 -- at the code of the last voxel no crossing is left
 near_ended : (n : Inside) (r : IsNear n) (code : ℕ) → IsInMap (near_voxel n)
@@ -107,9 +138,9 @@ near_ended : (n : Inside) (r : IsNear n) (code : ℕ) → IsInMap (near_voxel n)
     → has_ended r.track_a r.track_b r.track_c ≡ true
 near_ended n r code on_map coded e =
     let at = coded_voxel (near_voxel n) n.last on_map (sym e ∙ coded) in
-    let x = at_end _ n.axes.x r.track_a r.axis_a (ap (λ (k : Voxel). k.x) at) in
-    let y = at_end _ n.axes.y r.track_b r.axis_b (ap (λ (k : Voxel). k.y) at) in
-    let z = at_end _ n.axes.z r.track_c r.axis_c (ap (λ (k : Voxel). k.z) at) in
+    let x = at_end _ _ n.axes.x r.track_a r.axis_a (ap (λ (k : Voxel). k.x) at) in
+    let y = at_end _ _ n.axes.y r.track_b r.axis_b (ap (λ (k : Voxel). k.y) at) in
+    let z = at_end _ _ n.axes.z r.track_c r.axis_c (ap (λ (k : Voxel). k.z) at) in
     zero_is (r.track_a.crossings + r.track_b.crossings + r.track_c.crossings)
     (omega (arith, x, y, z))
 
@@ -122,9 +153,9 @@ near_goes_on n r code coded other =
       | true ↦ λ e.
           let none =
           zero_from (r.track_a.crossings + r.track_b.crossings + r.track_c.crossings) e in
-          let x = stands_at_end _ n.axes.x r.track_a r.axis_a (omega (arith, none)) in
-          let y = stands_at_end _ n.axes.y r.track_b r.axis_b (omega (arith, none)) in
-          let z = stands_at_end _ n.axes.z r.track_c r.axis_c (omega (arith, none)) in
+          let x = stands_at_end _ _ n.axes.x r.track_a r.axis_a (omega (arith, none)) in
+          let y = stands_at_end _ _ n.axes.y r.track_b r.axis_b (omega (arith, none)) in
+          let z = stands_at_end _ _ n.axes.z r.track_c r.axis_c (omega (arith, none)) in
           absurd (other (coded ∙ morton_of_gathered n.last _ _ _ r.last x y z))
       | false ↦ λ e. refl
     ] refl
@@ -209,19 +240,19 @@ bit_le : (t : Bool) (n : ℕ) → (t ≡ true → 0 < n) → bit t ≤ n
 bit_le true n h = omega (arith, h refl)
 bit_le false n h = omega arith
 
-stays_on_map : (t : Bool) (end now : ℕ) (a : NearAxis) (s : Track) (p q : ℕ) → IsAxisTo end a s
-    → CanPass t s p q → now ≡ bit t → StaysOnMap now a
-stays_on_map t end now a s p q h c e =
-    let key = ap (λ (b : NearAxis). b.key) h.same in
-    let rises = ap (λ (b : NearAxis). b.rises) h.same in
+stays_on_map : (t : Bool) (unit end now : ℕ) (a : NearAxis) (s : Track) (p q : ℕ)
+    → IsAxisTo unit end a s → CanPass t s p q → now ≡ bit t → StaysOnMap now a
+stays_on_map t unit end now a s p q h c e =
+    let key = ap (λ (b : NearAxis). b.key.number) h.same in
+    let rises = ap (λ (b : NearAxis). b.key.rises) h.same in
     let few = bit_le t s.crossings c.crossings in
     record {
       up = λ up. omega (arith, key, e, few, c.rising (sym rises ∙ up));
       down = λ down. omega (arith, key, e, few, c.falling (sym rises ∙ down));
     }
 
-small_pace : (end : ℕ) (a : NearAxis) (t : Track) → IsAxisTo end a t → a.pace < 2 ^ 63
-small_pace end a t h =
+small_pace : (unit end : ℕ) (a : NearAxis) (t : Track) → IsAxisTo unit end a t → a.pace < 2 ^ 63
+small_pace unit end a t h =
     let pace = ap (λ (b : NearAxis). b.pace) h.same in omega (arith, pace, h.small)
 
 -- so all three stay on the map
@@ -232,9 +263,9 @@ all_stay n r code i j k coded other now =
     let e = near_goes_on n r code coded other in
     let (x, y, z) = tracks_now n r i j k now in
     record {
-      x = stays_on_map _ _ i n.axes.x r.track_a _ _ r.axis_a (can_pass_x w r.tracks e) x;
-      y = stays_on_map _ _ j n.axes.y r.track_b _ _ r.axis_b (can_pass_y w r.tracks e) y;
-      z = stays_on_map _ _ k n.axes.z r.track_c _ _ r.axis_c (can_pass_z w r.tracks e) z;
+      x = stays_on_map _ _ _ i n.axes.x r.track_a _ _ r.axis_a (can_pass_x w r.tracks e) x;
+      y = stays_on_map _ _ _ j n.axes.y r.track_b _ _ r.axis_b (can_pass_y w r.tracks e) y;
+      z = stays_on_map _ _ _ k n.axes.z r.track_c _ _ r.axis_c (can_pass_z w r.tracks e) z;
     }
 
 -- so its axes can cross
@@ -243,9 +274,9 @@ pub can_cross : (n : Inside) → IsNear n → (code : ℕ) → code ≡ morton_o
 can_cross n r code coded other = record {
   stay = λ i j k now. all_stay n r code i j k coded other now;
   room = record {
-    x_pace = small_pace _ n.axes.x r.track_a r.axis_a;
-    y_pace = small_pace _ n.axes.y r.track_b r.axis_b;
-    z_pace = small_pace _ n.axes.z r.track_c r.axis_c;
+    x_pace = small_pace _ _ n.axes.x r.track_a r.axis_a;
+    y_pace = small_pace _ _ n.axes.y r.track_b r.axis_b;
+    z_pace = small_pace _ _ n.axes.z r.track_c r.axis_c;
     y_after_x = r.y_after_x.some;
     z_after_x = r.z_after_x.some;
     z_after_y = r.z_after_y.some;
@@ -265,18 +296,19 @@ down_one : (rises : Bool) (key crossings end : ℕ) → rises ≡ false → 0 < 
 down_one rises key crossings end e some h = rw e (omega (arith, some, h))
 
 -- an axis steps as its track
-axis_steps : (t : Bool) (end now : ℕ) (a b : NearAxis) (s : Track) (p q : ℕ) → IsAxisTo end a s
-    → CanPass t s p q → now ≡ bit t → b ≡ after_pass now a → IsAxisTo end b (track_after t s p q)
-axis_steps true end now a b s p q h c e f = record {
+axis_steps : (t : Bool) (unit end now : ℕ) (a b : NearAxis) (s : Track) (p q : ℕ)
+    → IsAxisTo unit end a s → CanPass t s p q → now ≡ bit t → b ≡ after_pass now a
+    → IsAxisTo unit end b (track_after t s p q)
+axis_steps true unit end now a b s p q h c e f = record {
   same = f ∙ ap (λ (n : ℕ). after_pass n a) e ∙ ap (after_pass 1) h.same;
   small = h.small;
   rising = λ up. up_one s.rises s.key s.crossings end up (c.crossings refl) (h.rising up);
   falling = λ down. down_one s.rises s.key s.crossings end down (c.crossings refl) (h.falling down);
 }
-axis_steps false end now a b s p q h c e f = record {
+axis_steps false unit end now a b s p q h c e f = record {
   same =
       f ∙ ap (λ (n : ℕ). after_pass n a) e ∙ ap (after_pass 0) h.same
-      ∙ ap (λ (k : ℕ). axis_of_track (record {
+      ∙ ap (λ (k : ℕ). axis_of_track unit (record {
         key = k;
         rises = s.rises;
         crossings = s.crossings;
@@ -328,13 +360,13 @@ near_steps n m r code i j k coded other now s l =
       track_c = track_after (crosses_now c a b) c a.pace b.pace;
       tracks = AreTracks-steps w _ _ _ r.tracks e refl refl refl;
       axis_a = rw l
-          (axis_steps (crosses_now a b c) (gathered 16 n.last) i n.axes.x m.axes.x a b.pace c.pace
+          (axis_steps (crosses_now a b c) 1 (gathered 16 n.last) i n.axes.x m.axes.x a b.pace c.pace
           r.axis_a (can_pass_x w r.tracks e) ei s.x);
       axis_b = rw l
-          (axis_steps (crosses_now b c a) (gathered 16 (n.last / 2)) j n.axes.y m.axes.y b c.pace
+          (axis_steps (crosses_now b c a) 2 (gathered 16 (n.last / 2)) j n.axes.y m.axes.y b c.pace
           a.pace r.axis_b (can_pass_y w r.tracks e) ej s.y);
       axis_c = rw l
-          (axis_steps (crosses_now c a b) (gathered 16 (n.last / 4)) k n.axes.z m.axes.z c a.pace
+          (axis_steps (crosses_now c a b) 4 (gathered 16 (n.last / 4)) k n.axes.z m.axes.z c a.pace
           b.pace r.axis_c (can_pass_z w r.tracks e) ek s.z);
       y_after_x = order_steps n.axes.y_after_x m.axes.y_after_x a.beside_next b.beside_third
           _ _ i j n.axes.x.pace
@@ -399,9 +431,9 @@ near_some n r none =
 
 -- the axes of tracks, with the orders of their places, to the last voxel of these
 pub record IsMadeOf (n : NearAxes) (x y z : Track) : Type 0 where
-  pub x_is : n.x ≡ axis_of_track x
-  pub y_is : n.y ≡ axis_of_track y
-  pub z_is : n.z ≡ axis_of_track z
+  pub x_is : n.x ≡ axis_of_track 1 x
+  pub y_is : n.y ≡ axis_of_track 2 y
+  pub z_is : n.z ≡ axis_of_track 4 z
   pub small_x : x.pace < 2 ^ 63
   pub small_y : y.pace < 2 ^ 63
   pub small_z : z.pace < 2 ^ 63
@@ -409,10 +441,10 @@ pub record IsMadeOf (n : NearAxes) (x y z : Track) : Type 0 where
   pub z_after_x : IsOrder n.z_after_x x.beside_third z.beside_next
   pub z_after_y : IsOrder n.z_after_y y.beside_next z.beside_third
 
-axis_to : (end last : ℕ) (a : NearAxis) (t : Track) (b : Axis) → a ≡ axis_of_track t
+axis_to : (unit end last : ℕ) (a : NearAxis) (t : Track) (b : Axis) → a ≡ axis_of_track unit t
     → t.pace < 2 ^ 63 → t.rises ≡ b.rises → t.key ≡ b.key → t.crossings ≡ b.crossings → HasRoom b
-    → last ≡ key_after b b.crossings → last ≡ end → IsAxisTo end a t
-axis_to end last a t b same small er ek ec room el ee = record {
+    → last ≡ key_after b b.crossings → last ≡ end → IsAxisTo unit end a t
+axis_to unit end last a t b same small er ek ec room el ee = record {
   same = same;
   small = small;
   rising =
@@ -434,11 +466,11 @@ near_new n x y z r m l =
       track_b = y;
       track_c = z;
       tracks = r;
-      axis_a = axis_to _ l.voxel.x n.axes.x x r.a m.x_is m.small_x r.track_a.rises r.track_a.key
+      axis_a = axis_to _ _ l.voxel.x n.axes.x x r.a m.x_is m.small_x r.track_a.rises r.track_a.key
           r.track_a.crossings r.is_a (ap (λ (k : Voxel). k.x) end) (ap (λ (k : Voxel). k.x) at);
-      axis_b = axis_to _ l.voxel.y n.axes.y y r.b m.y_is m.small_y r.track_b.rises r.track_b.key
+      axis_b = axis_to _ _ l.voxel.y n.axes.y y r.b m.y_is m.small_y r.track_b.rises r.track_b.key
           r.track_b.crossings r.is_b (ap (λ (k : Voxel). k.y) end) (ap (λ (k : Voxel). k.y) at);
-      axis_c = axis_to _ l.voxel.z n.axes.z z r.c m.z_is m.small_z r.track_c.rises r.track_c.key
+      axis_c = axis_to _ _ l.voxel.z n.axes.z z r.c m.z_is m.small_z r.track_c.rises r.track_c.key
           r.track_c.crossings r.is_c (ap (λ (k : Voxel). k.z) end) (ap (λ (k : Voxel). k.z) at);
       y_after_x = m.y_after_x;
       z_after_x = m.z_after_x;

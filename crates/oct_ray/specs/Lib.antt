@@ -5,3 +5,4 @@ pub mod Near
 pub mod Range
 pub mod Met
 pub mod Given
+pub mod Placed

@@ -7,6 +7,7 @@ use Rattle.oct_ray.specs.declared.track.Track.{Track}
 use Rattle.oct_ray.specs.declared.near.NearAxis.{NearAxis}
 use Rattle.oct_ray.specs.declared.near.NearAxes.{NearAxes}
 use Rattle.oct_ray.specs.declared.near.NearWalk.TheInside.{Inside}
+use Rattle.oct_ray.specs.Placed.{after_steps}
 use Rattle.oct_ray.specs.Track.{AreTracks, keys_left}
 
 -- 1 where it is true
@@ -33,22 +34,21 @@ pub record IsOrder (order first second : ℕ) : Type 0 where
   pub below : order < 2 ^ 64
   pub later : order + first ≡ 2 ^ 63 + second
 
--- what a near walk keeps of a track
-abbrev pub axis_of_track : Track → NearAxis
-axis_of_track t = record { key = t.key; rises = t.rises; pace = t.pace }
+-- what a near walk keeps of a track, whose numbers have their lowest bit there
+abbrev pub axis_of_track : ℕ → Track → NearAxis
+axis_of_track unit t = record {
+  key = record { number = t.key; unit = unit; rises = t.rises };
+  pace = t.pace;
+}
 
 -- an axis takes so many crossings, and stays on the map
 pub record StaysOnMap (now : ℕ) (a : NearAxis) : Type 0 where
-  pub up : a.rises ≡ true → a.key + now < 65536
-  pub down : a.rises ≡ false → now ≤ a.key
+  pub up : a.key.rises ≡ true → a.key.number + now < 65536
+  pub down : a.key.rises ≡ false → now ≤ a.key.number
 
 -- an axis after so many crossings
 abbrev pub after_pass : ℕ → NearAxis → NearAxis
-after_pass now a = record {
-  key = if a.rises then a.key + now else a.key - now;
-  rises = a.rises;
-  pace = a.pace;
-}
+after_pass now a = record { key = after_steps now a.key; pace = a.pace }
 
 -- these are 1 where x, y and z cross next
 pub record AreNow (n : NearAxes) (i j k : ℕ) : Type 0 where
@@ -102,9 +102,9 @@ pub record HasCrossed (n m : NearAxes) : Type 0 where
 -- the track of an axis that goes to the voxels of this number, with these crossings
 abbrev pub track_to : ℕ → NearAxis → ℕ → ℕ → Track
 track_to end a next third = record {
-  key = a.key;
-  rises = a.rises;
-  crossings = if a.rises then end - a.key else a.key - end;
+  key = a.key.number;
+  rises = a.key.rises;
+  crossings = if a.key.rises then end - a.key.number else a.key.number - end;
   beside_next = next;
   beside_third = third;
   pace = a.pace;
@@ -124,9 +124,9 @@ track_z n = track_to (gathered 16 (n.last / 4)) n.axes.z n.axes.z_after_x n.axes
 abbrev pub near_keys : Inside → List Voxel
 near_keys n = keys_left (track_x n) (track_y n) (track_z n)
 
--- the axis of a track that goes to the voxels of this number
-pub record IsAxisTo (end : ℕ) (a : NearAxis) (t : Track) : Type 0 where
-  pub same : a ≡ axis_of_track t
+-- the axis of a track that goes to the voxels of this number, with its lowest bit there
+pub record IsAxisTo (unit end : ℕ) (a : NearAxis) (t : Track) : Type 0 where
+  pub same : a ≡ axis_of_track unit t
   pub small : t.pace < 2 ^ 63
   pub rising : t.rises ≡ true → t.key + t.crossings ≡ end
   pub falling : t.rises ≡ false → end + t.crossings ≡ t.key
@@ -137,9 +137,9 @@ pub record IsNear (n : Inside) : Type 0 where
   pub track_b : Track
   pub track_c : Track
   pub tracks : AreTracks track_a track_b track_c
-  pub axis_a : IsAxisTo (gathered 16 n.last) n.axes.x track_a
-  pub axis_b : IsAxisTo (gathered 16 (n.last / 2)) n.axes.y track_b
-  pub axis_c : IsAxisTo (gathered 16 (n.last / 4)) n.axes.z track_c
+  pub axis_a : IsAxisTo 1 (gathered 16 n.last) n.axes.x track_a
+  pub axis_b : IsAxisTo 2 (gathered 16 (n.last / 2)) n.axes.y track_b
+  pub axis_c : IsAxisTo 4 (gathered 16 (n.last / 4)) n.axes.z track_c
   pub y_after_x : IsOrder n.axes.y_after_x track_a.beside_next track_b.beside_third
   pub z_after_x : IsOrder n.axes.z_after_x track_a.beside_third track_c.beside_next
   pub z_after_y : IsOrder n.axes.z_after_y track_b.beside_next track_c.beside_third

@@ -56,6 +56,7 @@ mod axis;
 mod beam_walk;
 mod laws;
 mod near;
+mod placed;
 mod range;
 mod track;
 mod walk;

@@ -5,10 +5,11 @@ ghost use Rattle.oct_ray.specs.Track.{AreTracks, keys_left};
 ghost use Rattle.oct_ray.specs.Near.{AreClose, AreNow, AreSmall, CanCross, HasCrossed, IsOrder};
 ghost use Rattle.oct_ray.specs.Near.{AllStay, HaveRoom, IsStep, StaysOnMap};
 ghost use Rattle.oct_ray.specs.Near.{after_pass, axis_of_track, bit};
+ghost use Rattle.oct_ray.specs.Placed.{IsUnit};
 
 use crate::beam_walk::BeamWalk;
+use crate::placed::{PlacedNumber, sum_of_parts};
 use crate::track::Track;
-use oct_key::{Dilated, morton_of_axes};
 use std::marker::Model;
 
 /// The order of two crossings at one place.
@@ -18,22 +19,21 @@ const TOGETHER: u64 = 1 << 63;
 #[derive(Debug, Drop)]
 struct NearAxis {
     /// The number of the voxels where the walk stands, with its bits where a code has them.
-    key: Dilated,
-    /// Whether the axis rises.
-    rises: bool,
+    key: PlacedNumber,
     /// What a crossing of another axis adds to its place beside this one.
     pace: u64,
 }
 
 impl NearAxis {
-    /// The axis of a track.
-    fn new(track: Track) -> NearAxis
-        requires { track.pace < 2 ^ 63 }
-        ensures { result ≡ axis_of_track track }
+    /// The axis of a track, whose numbers have their lowest bit there.
+    #[inline(always)]
+    fn new(track: Track, unit: u64) -> NearAxis
+        requires unit { IsUnit unit }
+        requires pace { track.pace < 2 ^ 63 }
+        ensures { result ≡ axis_of_track unit track }
     {
         NearAxis {
-            key: track.key,
-            rises: track.rises,
+            key: PlacedNumber::new(&track.key, unit, track.rises),
             pace: track.pace as u64,
         }
     }
@@ -45,7 +45,7 @@ impl NearAxis {
         requires stays { StaysOnMap now self.old }
         ensures { self.new ≡ after_pass now self.old }
     {
-        self.key.step(self.rises, now);
+        self.key.step(now);
     }
 }
 
@@ -184,9 +184,9 @@ impl NearWalk {
         let z_after_x = order(x.beside_third, z.beside_next);
         let z_after_y = order(y.beside_next, z.beside_third);
         let axes = NearAxes {
-            x: NearAxis::new(x),
-            y: NearAxis::new(y),
-            z: NearAxis::new(z),
+            x: NearAxis::new(x, 1),
+            y: NearAxis::new(y, 2),
+            z: NearAxis::new(z, 4),
             y_after_x,
             z_after_x,
             z_after_y,
@@ -200,7 +200,7 @@ impl BeamWalk for NearWalk {
 
     #[inline(always)]
     fn next_but_last(&mut self) -> Option<u64> {
-        let code = morton_of_axes(&self.axes.x.key, &self.axes.y.key, &self.axes.z.key);
+        let code = sum_of_parts(&self.axes.x.key, &self.axes.y.key, &self.axes.z.key);
         if code == self.last {
             return None;
         }
