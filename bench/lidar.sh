@@ -1,7 +1,7 @@
 #!/bin/sh
 # Measures scans against those of another build, mostly that of commit 594f9b3, in which beams were
 # walked as their points come and each voxel was tested in a box: the processor time of dense scans,
-# by turns, and the instructions of sparse ones; and the time of scans in four boxes against that of
+# by turns, and the instructions of sparse ones; and those of scans in four boxes against those of
 # one map. Fails where a ratio is exceeded.
 #
 #     bench/lidar.sh BEFORE [PROGRAM]
@@ -70,19 +70,19 @@ counted() {
 }
 
 expect '89,446 points in random directions, seconds' "$(timed random)" 0.66
-expect 'a room, 4 turns of 64 rings, seconds' "$(timed room)" 0.90
-expect 'a street, 4 turns of 64 rings, seconds' "$(timed street)" 1.00
-expect '20 scans of 2,000 points, instructions' "$(counted wide)" 0.92
-expect '5 scans of 500 points, instructions' "$(counted small)" 0.92
+expect 'a room, 4 turns of 64 rings, seconds' "$(timed room)" 0.74
+expect 'a street, 4 turns of 64 rings, seconds' "$(timed street)" 0.90
+expect '20 scans of 2,000 points, instructions' "$(counted wide)" 0.84
+expect '5 scans of 500 points, instructions' "$(counted small)" 0.84
 
 # Four boxes side by side across x, which have all voxels together.
 boxes=0
 for limits in '-1638.375 -4.025' '-3.975 -0.025' '0.025 3.975' '4.025 1638.375'; do
     low=${limits% *} high=${limits#* } far=1638.375
     { echo "limit $low -$far -$far $high $far $far" && cat -- "$folder/wide"; } >"$folder/boxed"
-    both=$(seconds boxed)
-    boxes=$(awk "BEGIN { print $boxes + ${both#* } }")
+    boxes=$((boxes + $(instructions "$program" boxed)))
 done
-both=$(seconds wide)
-expect 'four boxes against one map, seconds' "$(awk "BEGIN { print $boxes / ${both#* } }")" 1.35
+whole=$(instructions "$program" wide)
+ratio=$(awk "BEGIN { printf \"%.3f\", $boxes / $whole }")
+expect 'four boxes against one map, instructions' "$ratio" 1.35
 exit "$failed"

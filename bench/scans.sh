@@ -5,7 +5,7 @@
 
 set -eu
 
-most_instructions=92000000
+most_instructions=84000000
 most_kilobytes=18432
 most_growth=4
 
